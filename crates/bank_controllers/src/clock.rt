@@ -15,7 +15,7 @@ pub struct ClockRegisters {
 }
 
 /// The name of a register, 8 to C in the controller's numbers.
-#[derive(Clone, Copy, Debug, PartialEq, Eq)]
+#[derive(Clone, Copy)]
 pub enum ClockRegister {
     Seconds,
     Minutes,

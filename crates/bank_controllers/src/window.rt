@@ -8,7 +8,7 @@ use crate::state::BanksState;
 use cartridge::Controller;
 
 /// What A000 to BFFF shows.
-#[derive(Clone, Copy, Debug, PartialEq, Eq)]
+#[derive(Clone, Copy)]
 pub(crate) enum Window {
     /// A bank of 8 KiB that begins at this offset of the RAM.
     RamBank(usize),

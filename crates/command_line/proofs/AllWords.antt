@@ -16,6 +16,7 @@ use Rattle.clap.specs.Walk.{Names, Text, Walk, finished, idle, nothing_held, ans
 use Rattle.clap.specs.Words.{FailsBy, HasKind, kind_of}
 use Rattle.clap.specs.declared.builder.value_parser.ValueParser.TheVariants.{Signed}
 use Rattle.clap.specs.declared.error.Error.{Error}
+use Rattle.clap.specs.declared.error.kind.ErrorKind.{ErrorKind}
 use Rattle.clap.proofs.FaultLemmas.{stopped_fault}
 use Rattle.clap.proofs.WalkLemmas.{find-map, walk_stopped}
 use Rattle.command_line.specs.Commands.{IsRead, Passes, Usage, commands, gbkeep, is_named, words_in, words_of}
@@ -126,20 +127,23 @@ module _ (name : Text) (u : Usage) (is : find (is_named name) commands ≡ Some 
 abbrev NoCommand : Text → Type 0
 NoCommand word = subcommand_met names idle word ≡ None
 
+some_kind : (k : ErrorKind) (ks : Kinds) → Fails (k ∷ ks)
+some_kind k ks e = cc
+
 no_words : (words : List Text) → (words ≡ []) ⊎ ((program : Text) × (words ≡ program ∷ [])) → Fails (fault_of gbkeep words)
 unfolding walk_fault walked defaults_fault
-no_words words (inl none) = subst (λ (w : List Text). Fails (fault_of gbkeep w)) (sym none) (λ e. cc)
-no_words words (inr (program, alone)) = subst (λ (w : List Text). Fails (fault_of gbkeep w)) (sym alone) (λ e. cc)
+no_words words (inl none) = subst (λ (w : List Text). Fails (fault_of gbkeep w)) (sym none) (some_kind _ _)
+no_words words (inr (program, alone)) = subst (λ (w : List Text). Fails (fault_of gbkeep w)) (sym alone) (some_kind _ _)
 
 help_fails : (program : Text) (rest : List Text) → Fails (fault_of gbkeep (program ∷ codes "help" ∷ rest))
 unfolding walk_fault
-help_fails program rest = λ e. cc
+help_fails program rest = some_kind _ _
 
 -- `--` alone enters no command, and no operand may follow it
-dashes_fail : (word : Text) (program : Text) (rest : List Text) → NoCommand word → bytes_eq word dashes ≡ true → Fails (fault_of gbkeep (program ∷ word ∷ rest))
+dashes_fail : (program : Text) (rest : List Text) → Fails (fault_of gbkeep (program ∷ dashes ∷ rest))
 unfolding walk_fault walked defaults_fault
-dashes_fail word program [] unknown is = rw (unknown, is) (λ e. cc)
-dashes_fail word program (next ∷ rest) unknown is = rw (unknown, is) (λ e. cc)
+dashes_fail program [] = some_kind _ _
+dashes_fail program (next ∷ rest) = some_kind _ _
 
 other_fails : (word : Text) (program : Text) (rest : List Text) → NoCommand word → bytes_eq word dashes ≡ false → Fails (fault_of gbkeep (program ∷ word ∷ rest))
 unfolding walk_fault
@@ -153,7 +157,7 @@ unknown_fails : (word : Text) (program : Text) (rest : List Text) → find (is_n
 unknown_fails word program rest e = help (bytes_eq (codes "help") word) refl
   where
     go : NoCommand word → (b : Bool) → bytes_eq word dashes ≡ b → Fails (fault_of gbkeep (program ∷ word ∷ rest))
-    go unknown true is = dashes_fail word program rest unknown is
+    go unknown true is = subst (λ (w : Text). Fails (fault_of gbkeep (program ∷ w ∷ rest))) (sym ((bytes_eq-Decides word dashes).0 is)) (dashes_fail program rest)
     go unknown false is = other_fails word program rest unknown is
 
     help : (b : Bool) → bytes_eq (codes "help") word ≡ b → Fails (fault_of gbkeep (program ∷ word ∷ rest))

@@ -143,6 +143,9 @@ fn named_request<'a>(name: &str, values: &ArgMatches<'a>) -> Option<Request<'a>>
     ensures { AnswersAs name.now (rows_of (found_of values.now)) result }
 {
     let cart = operand(values, "CART");
+    let save = operand(values, "SAVE");
+    let out = operand(values, "OUT");
+    let recording = operand(values, "RECORDING");
     match name {
         "info" => Some(Request::Info { cart }),
         "list" => Some(Request::List {
@@ -156,28 +159,21 @@ fn named_request<'a>(name: &str, values: &ArgMatches<'a>) -> Option<Request<'a>>
         }),
         "new" => Some(Request::New {
             cart,
-            save: operand(values, "SAVE"),
+            save,
             sectors: optional_number(values, "SECTORS"),
         }),
         "play" => Some(Request::Play {
             cart,
-            save: operand(values, "SAVE"),
+            save,
             script: operand(values, "SCRIPT"),
         }),
-        "frame" => Some(Request::Frame {
-            cart,
-            save: operand(values, "SAVE"),
-            out: operand(values, "OUT"),
-        }),
+        "frame" => Some(Request::Frame { cart, save, out }),
         "trace" => Some(Request::Trace {
             cart,
-            save: operand(values, "SAVE"),
+            save,
             count: number(values, "COUNT"),
         }),
-        "stream" => Some(Request::Stream {
-            cart,
-            save: operand(values, "SAVE"),
-        }),
+        "stream" => Some(Request::Stream { cart, save }),
         "test" => Some(Request::Test {
             cart,
             frames: number(values, "FRAMES"),
@@ -185,36 +181,26 @@ fn named_request<'a>(name: &str, values: &ArgMatches<'a>) -> Option<Request<'a>>
         }),
         "new-recording" => Some(Request::NewRecording {
             cart,
-            recording: operand(values, "RECORDING"),
+            recording,
             sectors: number(values, "SECTORS"),
         }),
         "record" => Some(Request::Record {
             cart,
-            save: operand(values, "SAVE"),
-            recording: operand(values, "RECORDING"),
+            save,
+            recording,
         }),
-        "recorded" => Some(Request::Recorded {
-            cart,
-            recording: operand(values, "RECORDING"),
-        }),
+        "recorded" => Some(Request::Recorded { cart, recording }),
         "verify" => Some(Request::Verify {
             cart,
-            save: operand(values, "SAVE"),
-            recording: operand(values, "RECORDING"),
+            save,
+            recording,
         }),
-        "show" => Some(Request::Show {
-            cart,
-            save: operand(values, "SAVE"),
-        }),
-        "export" => Some(Request::Export {
-            cart,
-            save: operand(values, "SAVE"),
-            out: operand(values, "OUT"),
-        }),
+        "show" => Some(Request::Show { cart, save }),
+        "export" => Some(Request::Export { cart, save, out }),
         "import" => Some(Request::Import {
             cart,
             battery: operand(values, "BATTERY"),
-            save: operand(values, "SAVE"),
+            save,
             sectors: optional_number(values, "SECTORS"),
         }),
         "debug" => Some(Request::Debug {

@@ -1,6 +1,6 @@
 //! What is answered to a line.
 
-ghost use Rattle.std.specs.Prelude.{◌≡◌, [], drop, length, true, OnErr, OnOk};
+ghost use Rattle.std.specs.Prelude.{◌≡◌, [], codes, drop, length, true, if◌then◌else◌, OnErr, OnOk};
 ghost use Rattle.std.specs.Io.KnownBytes.{Appends};
 ghost use Rattle.exact_text.specs.Written.{AppendsProperPrefix};
 ghost use Rattle.memory_map.specs.BusRules.{bus_rules};
@@ -22,8 +22,7 @@ use crate::run::{Run, RunRestored, RunUntil};
 use arrayvec::ArrayString;
 use cartridge::Cartridge;
 use debugger::{Debugger, register_line, write_stepped};
-use digest_text::digest_digits;
-use exact_text::{Output, OutputFailed, number_digits, word_digits, write_whole};
+use exact_text::{Output, OutputFailed, digest_digits, number_digits, word_digits, write_whole};
 use machine::{Machine, Processor, StepKind, Stepped};
 use machine_lines::{write_count, write_memory, write_state};
 use memory_map::Bus;
@@ -90,12 +89,25 @@ pub(crate) fn restore<W: Output>(
     ensures failed { OnErr result.written (W.has_failed out.new ≡ true) }
 {
     let RunRestored { run, is_restored } = run.restore(cartridge, bytes);
-    let written = if is_restored {
-        write_whole(out, b"restored\n")
-    } else {
-        write_wrong(number, out)
-    };
+    let written = write_restored(is_restored, number, out);
     Answered { run, written }
+}
+
+fn write_restored<W: Output>(
+    is_restored: bool,
+    number: u64,
+    out: &mut W,
+) -> Result<(), OutputFailed>
+    ensures ok { OnOk result (Appends (W.contents out.old) (W.contents out.new)
+        (if is_restored then codes "restored\n" else wrong_line number)) }
+    ensures err { OnErr result (AppendsProperPrefix (W.contents out.old) (W.contents out.new)
+        (if is_restored then codes "restored\n" else wrong_line number)) }
+    ensures failed { OnErr result (W.has_failed out.new ≡ true) }
+{
+    if is_restored {
+        return write_whole(out, b"restored\n");
+    }
+    write_wrong(number, out)
 }
 
 /// The line about a wrong line.
@@ -141,31 +153,17 @@ fn obey<W: Output>(run: Run, order: Order, rom: usize, snapshot: &mut [u8], out:
             Answered { run, written }
         }
         Order::Step(count) => write_steps(run, count, out),
-        Order::Until { steps, places } => {
-            let RunUntil { run, is_there } = run.run_until_place(places, rom, steps);
-            let written = write_place(is_there, run.processor(), out);
-            Answered { run, written }
-        }
-        Order::UntilOpcode { steps, opcode } => {
-            let RunUntil { run, is_there } = run.run_until_opcode(opcode, rom, steps);
-            let written = write_place(is_there, run.processor(), out);
-            Answered { run, written }
-        }
-        Order::UntilChange { steps, address } => {
-            let RunUntil { run, is_there } = run.run_until_change(address, rom, steps);
-            let written = write_place(is_there, run.processor(), out);
-            Answered { run, written }
-        }
-        Order::UntilWrite { steps, span } => {
-            let RunUntil { run, is_there } = run.run_until_write(span, rom, steps);
-            let written = write_place(is_there, run.processor(), out);
-            Answered { run, written }
-        }
-        Order::UntilRead { steps, span } => {
-            let RunUntil { run, is_there } = run.run_until_read(span, rom, steps);
-            let written = write_place(is_there, run.processor(), out);
-            Answered { run, written }
-        }
+        Order::Until { steps, places } => stopped(run.run_until_place(places, rom, steps), out),
+        Order::UntilOpcode { steps, opcode } => stopped(
+            run.run_until_opcode(opcode, rom, steps),
+            out,
+        ),
+        Order::UntilChange { steps, address } => stopped(
+            run.run_until_change(address, rom, steps),
+            out,
+        ),
+        Order::UntilWrite { steps, span } => stopped(run.run_until_write(span, rom, steps), out),
+        Order::UntilRead { steps, span } => stopped(run.run_until_read(span, rom, steps), out),
         Order::Set { address, byte } => {
             let run = run.set(address, byte);
             let written = write_whole(out, b"done\n");
@@ -212,6 +210,21 @@ fn obey<W: Output>(run: Run, order: Order, rom: usize, snapshot: &mut [u8], out:
             Answered { run, written }
         }
     }
+}
+
+/// Says where a run is, and whether it stopped there.
+fn stopped<W: Output>(until: RunUntil, out: &mut W) -> Answered
+    ensures run { result.run ≡ until.run }
+    ensures ok { OnOk result.written
+        (Appends (W.contents out.old) (W.contents out.new) (place_text until.is_there (processor_of until.run))) }
+    ensures err { OnErr result.written
+        (AppendsProperPrefix (W.contents out.old) (W.contents out.new)
+        (place_text until.is_there (processor_of until.run))) }
+    ensures failed { OnErr result.written (W.has_failed out.new ≡ true) }
+{
+    let RunUntil { run, is_there } = until;
+    let written = write_place(is_there, run.processor(), out);
+    Answered { run, written }
 }
 
 fn write_registers<W: Output>(run: &Run, out: &mut W) -> Result<(), OutputFailed>

@@ -30,7 +30,7 @@ const BANK_DIGITS: usize = 3;
 pub const MOST_PLACES: usize = 16;
 
 /// A place at which a run stops.
-#[derive(Clone, Copy, Debug, Default, PartialEq, Eq)]
+#[derive(Clone, Copy, Default)]
 pub struct Place {
     pub address: u16,
     /// The bank that has to be mapped there; `None`: whichever is.
@@ -38,7 +38,7 @@ pub struct Place {
 }
 
 /// Addresses, from the first to the last of them.
-#[derive(Clone, Copy, Debug, PartialEq, Eq)]
+#[derive(Clone, Copy)]
 pub struct Span {
     pub first: u16,
     /// Not below the first.
@@ -46,7 +46,7 @@ pub struct Span {
 }
 
 /// What a line asks for.
-#[derive(Clone, Debug, PartialEq, Eq, Drop)]
+#[derive(Clone, Drop)]
 pub enum Order {
     /// Frames with these buttons, as in a script.
     Frames {
@@ -116,7 +116,7 @@ pub enum Order {
 }
 
 /// What a line asks for that takes memory, or goes back to what has taken some.
-#[derive(Clone, Debug, PartialEq, Eq, Drop)]
+#[derive(Clone, Drop)]
 pub enum StateOrder {
     /// The power switch, off and on.
     Power,

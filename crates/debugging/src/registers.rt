@@ -11,7 +11,7 @@ use sm83_alu::{Flags, Registers};
 const BYTE_DIGITS: usize = 2;
 
 /// A register, or a pair of them, and the value that it gets.
-#[derive(Clone, Copy, Debug, PartialEq, Eq)]
+#[derive(Clone, Copy)]
 pub enum RegisterValue {
     A(u8),
     /// The low four bits are dropped.

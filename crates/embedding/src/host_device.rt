@@ -10,7 +10,7 @@ use sector_device::{DeviceFault, SectorDevice};
 use std::alloc::{AllocError, Global};
 
 /// A call that the host has to make.
-#[derive(Clone, Copy, Debug, PartialEq, Eq)]
+#[derive(Clone, Copy, PartialEq, Eq)]
 pub enum Call {
     /// These bytes at this sector.
     Write { at: u64, bytes: [u8; 512] },

@@ -11,9 +11,11 @@ ghost use Rattle.arrayvec.specs.ArrayString.{array_string_len};
 ghost use Rattle.exact_text.specs.Hex.{hex_digit, byte_text, word_text};
 ghost use Rattle.exact_text.specs.Written.{AppendsProperPrefix};
 
+mod digest;
 mod output;
 
 use arrayvec::ArrayString;
+pub use digest::digest_digits;
 use itoa::Buffer;
 pub use output::{CheckedOutput, Output, OutputFailed};
 

@@ -30,7 +30,7 @@ const REFUSED: u8 = 1;
 
 pub(crate) const NOT_UNDERSTOOD: u8 = 2;
 
-#[derive(Clone, Copy, Debug, PartialEq, Eq)]
+#[derive(Clone, Copy)]
 pub(crate) enum Fault {
     Cart(CartError),
     Memory,

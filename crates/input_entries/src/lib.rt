@@ -24,7 +24,7 @@ pub struct Entry {
 
 /// One entry, as it is kept: `00`, buttons and a length, low byte first, for a run of equal frames,
 /// or `01`, the seconds, low byte first, and `00`.
-#[derive(Clone, Copy, Debug, PartialEq, Eq)]
+#[derive(Clone, Copy)]
 pub struct StoredEntry {
     /// The kind, 0 or 1, and its data. An entry of version 1 of a log is kept in this form too.
     pub code: [u8; 6],

@@ -7,7 +7,7 @@ use crate::counts::{is_run, is_seconds, run_length};
 use crate::{Entry, StoredEntry};
 
 /// What an entry of a log stands for.
-#[derive(Clone, Copy, Debug, PartialEq, Eq)]
+#[derive(Clone, Copy)]
 pub enum Logged {
     /// A run of equal frames.
     Frames {

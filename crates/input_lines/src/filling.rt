@@ -13,7 +13,7 @@ const NEWLINE: u8 = b'\n';
 pub type Unread = ArrayVec<u8, 1024>;
 
 /// How a read went.
-#[derive(Clone, Copy, Debug, PartialEq, Eq)]
+#[derive(Clone, Copy)]
 pub enum More {
     Bytes,
     End,
@@ -21,7 +21,7 @@ pub enum More {
 }
 
 /// Why no more is read now.
-#[derive(Clone, Copy, Debug, PartialEq, Eq)]
+#[derive(Clone, Copy)]
 pub enum Filled {
     /// There is a whole line, or more than a line may have.
     Line,

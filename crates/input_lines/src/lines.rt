@@ -12,7 +12,7 @@ use arrayvec::ArrayVec;
 const MOST: usize = 128;
 
 /// What comes next.
-#[derive(Clone, Debug, PartialEq, Eq, Drop)]
+#[derive(Clone, Debug, Drop)]
 pub enum NextLine {
     /// A line, without its newline.
     Line(ArrayVec<u8, 128>),

@@ -7,7 +7,7 @@ use crate::filling::{Unread, drop_first};
 use crate::input::LineInput;
 
 /// How bytes were taken.
-#[derive(Clone, Copy, Debug, PartialEq, Eq)]
+#[derive(Clone, Copy)]
 pub enum Taken {
     /// All of them.
     All,

@@ -46,14 +46,18 @@ chunk_at sector w v i k same wide =
     minus_here : (a b k : ℕ) → k ≡ a + b - a → k ≡ b
     minus_here a b k is = omega (arith, is)
 
-and_false : (a s : Bool) → (a && false && s) ≡ false
+pub and_false : (a s : Bool) → (a && false && s) ≡ false
 and_false true s = refl
 and_false false s = refl
 
-pub no_zeros : (slot : ℕ) (sector : List ℕ) → zeros (drop 64 sector) ≡ false → None ≡ (if is_valid_root slot sector then Some (root_in sector) else None)
-no_zeros slot sector fails =
-    sym (ap (λ (t : Bool). if begins_with (root_front (version_in sector)) sector && t && (root_in sector).generation % 2 == slot then Some (root_in sector) else None) fails
-    ∙ ap (λ (t : Bool). if t then Some (root_in sector) else None) (and_false (begins_with (root_front (version_in sector)) sector) ((root_in sector).generation % 2 == slot)))
+pub and_last : (a b : Bool) → (a && b && false) ≡ false
+and_last true true = refl
+and_last true false = refl
+and_last false b = refl
+
+-- one of the three tests fails
+pub no_root : (slot : ℕ) (sector : List ℕ) → is_valid_root slot sector ≡ false → None ≡ (if is_valid_root slot sector then Some (root_in sector) else None)
+no_root slot sector fails = sym (ap (λ (t : Bool). if t then Some (root_in sector) else None) fails)
 
 pub is_valid : (slot : ℕ) (sector : List ℕ) → begins_with (root_front (version_in sector)) sector ≡ true → zeros (drop 64 sector) ≡ true → ((root_in sector).generation % 2 == slot) ≡ true
     → (if is_valid_root slot sector then Some (root_in sector) else None) ≡ Some (root_in sector)

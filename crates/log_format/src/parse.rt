@@ -84,22 +84,20 @@ fn read_entry(version: Version, bytes: &[u8]) -> StoredEntry
     requires { length bytes.now ≡ width version }
     ensures { result ≡ stored version bytes.now }
 {
+    let mut code = [0; 6];
     match version {
-        Version::Two => StoredEntry {
-            code: [bytes[0], bytes[1], bytes[2], bytes[3], bytes[4], bytes[5]],
-        },
+        Version::Two => code.copy_from_slice(bytes),
         Version::One => {
-            if bytes[0] != 0 {
+            if bytes[0] == 0 {
+                let times = if is_zeros(&bytes[2..]) { 1 } else { 0 };
                 return StoredEntry {
-                    code: [bytes[0], bytes[1], bytes[2], bytes[3], bytes[4], 0],
+                    code: [0, bytes[1], times, 0, 0, 0],
                 };
             }
-            let times = if is_zeros(&bytes[2..]) { 1 } else { 0 };
-            StoredEntry {
-                code: [0, bytes[1], times, 0, 0, 0],
-            }
+            code[..5].copy_from_slice(bytes);
         }
     }
+    StoredEntry { code }
 }
 
 fn room(version: Version) -> u16

@@ -5,14 +5,14 @@ ghost use Rattle.log_format.specs.Content.{last_generation, need};
 use crate::sizes::LOG_SECTORS_PER_AREA;
 
 /// The two forms of a log's sectors. New generations are written in the second.
-#[derive(Clone, Copy, Debug, PartialEq, Eq)]
+#[derive(Clone, Copy)]
 pub enum Version {
     One,
     Two,
 }
 
 /// What a valid root says.
-#[derive(Clone, Copy, Debug, PartialEq, Eq)]
+#[derive(Clone, Copy)]
 pub struct Root {
     pub version: Version,
     /// One greater with each new root.

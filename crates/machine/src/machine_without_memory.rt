@@ -5,7 +5,7 @@ use sm83_alu::Registers;
 use sm83_processor::ProcessorState;
 
 /// What a snapshot holds of the machine besides its stores of bytes and the rows of the picture.
-#[derive(Clone, Copy, Debug, PartialEq, Eq)]
+#[derive(Clone, Copy, PartialEq, Eq)]
 pub struct MachineWithoutMemory {
     pub registers: Registers,
     pub state: ProcessorState,

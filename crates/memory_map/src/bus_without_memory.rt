@@ -5,7 +5,7 @@ use picture_unit::PictureState;
 use timer_unit::{SerialState, TimerState};
 
 /// What a snapshot holds of the bus besides its stores of bytes and the rows of the picture.
-#[derive(Clone, Copy, Debug, PartialEq, Eq)]
+#[derive(Clone, Copy, PartialEq, Eq)]
 pub struct BusWithoutMemory {
     pub ie: u8,
     /// The low five bits of IF.

@@ -1,7 +1,7 @@
 //! The registers that belong to no unit.
 
 /// The registers that belong to no unit, and what they are computed from.
-#[derive(Clone, Copy, Debug, PartialEq, Eq)]
+#[derive(Clone, Copy)]
 pub struct Control {
     /// IE, all eight bits.
     pub ie: u8,

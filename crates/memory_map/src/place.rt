@@ -4,7 +4,7 @@ ghost use Rattle.std.specs.Prelude.{◌≡◌};
 
 /// What an address names: the cartridge or a register by the address itself, every other store by
 /// the offset in it.
-#[derive(Clone, Copy, Debug, PartialEq, Eq)]
+#[derive(Clone, Copy)]
 pub enum Place {
     /// ROM, or cartridge RAM or clock, as the controller says.
     Cartridge(u16),

@@ -11,7 +11,7 @@ use crate::operands::{
 use crate::timing::{cycles, cycles_taken, length};
 
 /// An instruction with its length in bytes and its M-cycles.
-#[derive(Clone, Copy, Debug, PartialEq, Eq)]
+#[derive(Clone, Copy)]
 pub struct Decoded {
     pub instr: Instr,
     pub length: u8,

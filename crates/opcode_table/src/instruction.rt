@@ -1,7 +1,7 @@
 //! The instructions and their operands.
 
 /// An 8-bit operand of three bits: a register, or the byte at HL.
-#[derive(Clone, Copy, Debug, PartialEq, Eq)]
+#[derive(Clone, Copy)]
 pub enum Operand8 {
     B,
     C,
@@ -14,7 +14,7 @@ pub enum Operand8 {
 }
 
 /// A 16-bit register of loads and sums.
-#[derive(Clone, Copy, Debug, PartialEq, Eq)]
+#[derive(Clone, Copy)]
 pub enum Register16 {
     Bc,
     De,
@@ -23,7 +23,7 @@ pub enum Register16 {
 }
 
 /// A 16-bit register that PUSH and POP move.
-#[derive(Clone, Copy, Debug, PartialEq, Eq)]
+#[derive(Clone, Copy)]
 pub enum StackRegister16 {
     Bc,
     De,
@@ -32,7 +32,7 @@ pub enum StackRegister16 {
 }
 
 /// Where a byte of A lies: the address in BC, DE or HL, which then goes up or down by 1.
-#[derive(Clone, Copy, Debug, PartialEq, Eq)]
+#[derive(Clone, Copy)]
 pub enum Indirect {
     Bc,
     De,
@@ -41,7 +41,7 @@ pub enum Indirect {
 }
 
 /// The condition of a jump, a call or a return.
-#[derive(Clone, Copy, Debug, PartialEq, Eq)]
+#[derive(Clone, Copy)]
 pub enum Condition {
     NotZero,
     Zero,
@@ -50,7 +50,7 @@ pub enum Condition {
 }
 
 /// The operations of A with a byte.
-#[derive(Clone, Copy, Debug, PartialEq, Eq)]
+#[derive(Clone, Copy)]
 pub enum Operation {
     Add,
     AddCarry,
@@ -63,7 +63,7 @@ pub enum Operation {
 }
 
 /// The eight operations on A and the flags alone.
-#[derive(Clone, Copy, Debug, PartialEq, Eq)]
+#[derive(Clone, Copy)]
 pub enum AccumulatorOperation {
     RotateLeft,
     RotateRight,
@@ -76,7 +76,7 @@ pub enum AccumulatorOperation {
 }
 
 /// The rotations and shifts after CB.
-#[derive(Clone, Copy, Debug, PartialEq, Eq)]
+#[derive(Clone, Copy)]
 pub enum Shift {
     RotateLeft,
     RotateRight,
@@ -90,7 +90,7 @@ pub enum Shift {
 
 /// An instruction with its operands: n8 and e as their byte, n16 as a number (Pan Docs, 'CPU
 /// Instruction Set').
-#[derive(Clone, Copy, Debug, PartialEq, Eq)]
+#[derive(Clone, Copy)]
 pub enum Instr {
     /// NOP
     Nop,

@@ -17,7 +17,7 @@ const VBLANK: u16 = 16_416;
 /// The registers and counters of the picture unit: what a snapshot holds of it besides VRAM, OAM
 /// and the rows of shades. It is legal if STAT has no bits other than 6 to 3, LY is below 154 and
 /// the M-cycle is below 114.
-#[derive(Clone, Copy, Debug, PartialEq, Eq)]
+#[derive(Clone, Copy, PartialEq, Eq)]
 pub struct PictureState {
     /// FF40: bit 7 on, 6 window map 9C00, 5 window, 4 tile data from 8000, 3 background map 9C00, 2
     /// objects 8x16, 1 objects, 0 background and window.
@@ -54,7 +54,7 @@ pub struct PictureState {
 }
 
 /// The interrupts that the picture unit requests.
-#[derive(Clone, Copy, Debug, PartialEq, Eq)]
+#[derive(Clone, Copy)]
 pub struct PictureRequests {
     /// VBlank, bit 0 of IF.
     pub vblank: bool,

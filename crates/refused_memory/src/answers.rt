@@ -1,7 +1,7 @@
 //! What a call did.
 
 /// How a call went.
-#[derive(Clone, Copy, PartialEq, Eq)]
+#[derive(Clone, Copy)]
 pub(crate) enum Answer {
     /// It was not made: the memory for what it takes was refused.
     Unready,

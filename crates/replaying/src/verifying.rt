@@ -27,7 +27,7 @@ use snapshot::encode;
 use std::alloc::Global;
 
 /// How far a recording and its SAVE may be apart, and up to where they are compared.
-#[derive(Clone, Copy, Debug, PartialEq, Eq)]
+#[derive(Clone, Copy)]
 pub struct Limits {
     /// As many inputs the recording may have beyond those of the SAVE.
     pub beyond: u64,

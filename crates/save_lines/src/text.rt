@@ -5,8 +5,7 @@ ghost use Rattle.hex.specs.Hex.{encode_lower};
 ghost use Rattle.save_lines.specs.Shown.{inputs_line, logged_line, generation_line, sectors_line, rom_line, state_line};
 
 use arrayvec::ArrayString;
-use digest_text::digest_digits;
-use exact_text::number_digits;
+use exact_text::{digest_digits, number_digits};
 
 /// The lines of the numbers.
 pub(crate) fn numbers_text(

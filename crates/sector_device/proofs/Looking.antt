@@ -41,6 +41,9 @@ looked_then {a} {b} {c} x y = record {
   past = remembers_then a b c x.time x.past y.past;
 }
 
+pub looks_then : {a b c : DiskState} → (a.honest → LooksOnly a b) → (b.honest → LooksOnly b c) → a.honest → LooksOnly a c
+looks_then x y honest = let l = x honest in looked_then l (y l.honest)
+
 pub looked_self : (a : DiskState) → a.honest → LooksOnly a a
 looked_self a honest = record {
   honest = honest;

@@ -1,8 +1,8 @@
 -- How a run of device calls goes on, one lemma for each call.
-use Rattle.std.proofs.Common.{◌≡◌, ◌↔◌, inl, inr, ⊎_elim, ℕ, ◌≤◌, ◌<◌, ◌+◌, List, [], length, set, refl, sym, ap, ◌∙◌, subst, arith, length-set, Result, Ok, Err, OnOk, IsOk, ◌-◌}
+use Rattle.std.proofs.Common.{◌≡◌, ◌↔◌, inl, inr, ⊎_elim, ℕ, ◌≤◌, ◌<◌, ◌+◌, List, [], length, set, refl, sym, ap, ◌∙◌, subst, arith, length-set, Result, Ok, Err, OnOk, IsOk, IsErr, ◌-◌}
 use Rattle.std.proofs.lemmas.Bool.{cases_eq, cases_lt}
 use Rattle.std.proofs.lemmas.List.{get_or-set_same, get_or-set_other, ext_get_or}
-use Rattle.sector_device.specs.DiskState.{DiskState, Settled, Throughout, Remembers, KeepsHonesty, HasCalled, HasRead, HasWritten, HasSynced, sector_at}
+use Rattle.sector_device.specs.DiskState.{DiskState, Settled, Throughout, Remembers, KeepsHonesty, CountsFaults, HasCalled, HasRead, HasWritten, HasSynced, next_count, sector_at}
 use Rattle.sector_device.specs.Runs.{HoldsThroughout, HoldsSince, Mixed, WrittenUpTo}
 
 abbrev Images : Type 1
@@ -114,8 +114,22 @@ pub record AllWell (start now : DiskState) : Type 0 where
   pub faults : now.faults ≡ start.faults
   pub honest : now.honest ↔ start.honest
 
-pub one_more : {E : Type 0} {u : Unit {0}} {start mid now : DiskState} → AllWell start mid → HasCalled {E = E} mid now (Ok u) → AllWell start now
+pub one_more : {T E : Type 0} {v : T} {start mid now : DiskState} → AllWell start mid → HasCalled {T = T} {E = E} mid now (Ok v) → AllWell start now
 one_more w called = record { count = called.count ∙ w.count; faults = called.faults.ok ∙ w.faults; honest = both_then called.honest w.honest }
+
+-- the run ends there
+pub all_called : {T E : Type 0} {v : T} {start now : DiskState} → AllWell start now → HasCalled {T = T} {E = E} start now (Ok v)
+all_called w = record { count = w.count; honest = w.honest; faults = record { ok = w.faults; err = tt } }
+
+-- or at the call that failed
+count_failed : {T E : Type 0} {old now : ℕ} (r : Result T E) → IsErr r → now ≡ next_count old → CountsFaults old now r
+count_failed (Ok v) failed is = absurd (cc)
+count_failed (Err e) failed is = record { ok = tt; err = is }
+
+pub failed_then : {S T E F : Type 0} {e : F} {r : Result T E} {start mid now : DiskState}
+    → AllWell start mid → HasCalled {T = S} {E = F} mid now (Err e) → IsErr r → HasCalled {T = T} {E = E} start now r
+failed_then {S} {T} {E} {F} {e} {r} w called failed =
+    record { count = called.count ∙ w.count; honest = both_then called.honest w.honest; faults = count_failed r failed (called.faults.err ∙ ap next_count w.faults) }
 
 -- ---- of a result that is known later
 

@@ -1,6 +1,6 @@
 //! A call that changes a device, as a record keeps it.
 
-#[derive(Clone, Copy, Debug)]
+#[derive(Clone, Copy)]
 pub(crate) enum Recorded {
     /// What was written, and whether reads give it: a failed write may have left the sector old.
     Write {

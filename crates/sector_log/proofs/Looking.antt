@@ -1,5 +1,5 @@
 -- Calls that only look, and what they find.
-use Rattle.std.proofs.Common.{◌≡◌, inl, inr, ℕ, suc, ◌+◌, ◌-◌, ◌*◌, ◌<◌, ◌≤◌, ◌==◌, ◌++◌, List, [], ◌∷◌, length, take, drop, get_or, min, Bool, true, false, if◌then◌else◌, nat_le, Option, Some, None, sym, ap, ◌∙◌, arith, append_assoc, length-take, length-drop}
+use Rattle.std.proofs.Common.{◌≡◌, inl, inr, ℕ, suc, ◌+◌, ◌-◌, ◌*◌, ◌<◌, ◌≤◌, ◌==◌, ◌++◌, List, [], ◌∷◌, length, take, drop, get_or, min, Bool, true, false, if◌then◌else◌, nat_le, Option, Some, None, refl, sym, ap, ◌∙◌, arith, append_assoc, length-take, length-drop}
 use Rattle.std.proofs.lemmas.List.{drop-take, take-take, get_or-take, get_or-drop, drop_all, append-nil, length-take-le, take-append-le, take_all, drop-drop}
 use Rattle.log_format.proofs.AppendLaw.{take-past}
 use Rattle.std.proofs.Math.Seq.{drop-cons}
@@ -8,7 +8,7 @@ use Rattle.std.proofs.lemmas.Bool.Decides.{nat_tests}
 use Rattle.std.specs.List.{flat_map}
 use Rattle.sector_device.specs.DiskState.{DiskState, Settled, sector_at}
 use Rattle.log_format.specs.Log.{entries_of_full_sector, entries_at, log_from}
-use Rattle.log_format.specs.Content.{chosen, area_length, area_start, area, blob_sectors, content, content_by, content_in}
+use Rattle.log_format.specs.Content.{Body, chosen, area_length, area_start, area, blob_sectors, content, content_by, content_in}
 use Rattle.log_format.specs.Found.{log_of, log_in, is_too_small, no_body, blob_by, blob_in}
 use Rattle.sector_device.specs.Looking.{LooksOnly}
 use Rattle.sector_log.specs.Reading.{IsFound}
@@ -116,10 +116,24 @@ blob_next sectors start room index size part s less fits is long part_is =
     ∙ take_split (size - 512 * index) s (flat_map (λ (x : List ℕ). x) (drop (index + 1) all)) long
     ∙ (λ i. take (sym part_is i) s ++ take (left i) (flat_map (λ (x : List ℕ). x) (drop (index + 1) all)))
 
+long_by : (most size : ℕ) → nat_le size most ≡ false → (body : Option Body) → blob_by most size body ≡ None
+long_by most size fails None = refl
+long_by most size fails (Some body) = ap (λ (t : Bool). if t then Some body.blob else None) fails
+
 -- the blob of the chosen root
 module _ (now : List (List ℕ)) (root : Root) (most : ℕ) (is : chosen now ≡ Some root) where
   here : content now ≡ content_by (Some root) now
   here = ap (λ (r : Option Root). content_by r now) is
+
+  pub blob_long : most < root.blob_length → blob_in most (content now) ≡ None
+  blob_long long = ap (blob_in most) here ∙ long_by most root.blob_length (grind (arith, nat_tests)) (content_in root (area root.generation now)).body
+
+  pub blob_short : 2 ≤ length now → area_length now < 32 + blob_sectors root.blob_length → blob_in most (content now) ≡ None
+  blob_short many few =
+      let all = area root.generation now in
+      let fails : nat_le (32 + blob_sectors root.blob_length) (length all) ≡ false = let e = area_size now root.generation many in grind (arith, nat_tests) in
+      let found : Body = record { blob = take root.blob_length (flat_map (λ (s : List ℕ). s) (drop 32 all)); log = log_from root.version 0 (take 32 all) } in
+      ap (blob_in most) here ∙ ap (λ (t : Bool). blob_by most root.blob_length (if t then Some found else None)) fails
 
   pub blob_read : (start room : ℕ) (blob : List ℕ) → 2 ≤ length now → root.blob_length ≤ most → area_length now ≡ 32 + room → 32 + blob_sectors root.blob_length ≤ area_length now → start ≡ area_start root.generation now + 32
       → take root.blob_length (flat_map (λ (s : List ℕ). s) (take room (drop start now))) ≡ blob → blob_in most (content now) ≡ Some blob

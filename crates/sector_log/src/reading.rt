@@ -1,5 +1,5 @@
 //! What is on a device.
-ghost use Rattle.std.specs.Prelude.{◌≡◌, ◌≤◌, ◌<◌, ◌+◌, ◌/◌, ◌^◌, ◌++◌, [], length, take, drop, IfOk, vec_capacity, Bool, if◌then◌else◌, Option, Some, None};
+ghost use Rattle.std.specs.Prelude.{◌≡◌, ◌≤◌, ◌<◌, ◌+◌, ◌*◌, ◌/◌, ◌%◌, ◌^◌, ◌++◌, [], length, take, drop, IfOk, vec_capacity, Bool, if◌then◌else◌, Option, Some, None};
 ghost use Rattle.sector_device.specs.DiskState.{HasCalled, Settled};
 ghost use Rattle.log_format.specs.Log.{log_from};
 ghost use Rattle.std.specs.List.{flat_map};
@@ -68,6 +68,15 @@ fn read_log<D: SectorDevice>(
     Ok(())
 }
 
+/// The first sector of the area of a generation, where each has `area` sectors.
+fn area_start(generation: u64, area: u64) -> u64
+    requires { 2 + area < 2 ^ 64 }
+    ensures is { result ≡ 2 + generation % 2 * area }
+    ensures within { result ≤ 2 + area }
+{
+    2 + generation % 2 * area
+}
+
 /// What was found: the chosen root, and whether the area is too small for its blob.
 #[derive(Clone, Copy)]
 pub(crate) struct Finding {
@@ -111,7 +120,7 @@ pub(crate) fn read_chosen_log<D: SectorDevice>(
             too_small: true,
         });
     }
-    let start = 2 + root.generation % 2 * area;
+    let start = area_start(root.generation, area);
     read_log(device, start, root.version, log)?;
     Ok(Finding {
         root: Some(root),
@@ -188,7 +197,7 @@ pub(crate) fn read_chosen_blob<D: SectorDevice>(
     if area < LOG_SECTORS_PER_AREA + (size + 511) / 512 {
         return Ok(false);
     }
-    let start = 2 + root.generation % 2 * area + LOG_SECTORS_PER_AREA;
+    let start = area_start(root.generation, area) + LOG_SECTORS_PER_AREA;
     read_blob(device, start, area - LOG_SECTORS_PER_AREA, size, blob)?;
     Ok(true)
 }

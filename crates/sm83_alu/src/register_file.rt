@@ -3,7 +3,7 @@
 ghost use Rattle.std.specs.Prelude.{◌≡◌};
 
 /// The flags Z, N, H and C, which the register F holds in its bits 7 to 4.
-#[derive(Clone, Copy, Debug, PartialEq, Eq)]
+#[derive(Clone, Copy, PartialEq, Eq)]
 pub struct Flags {
     pub zero: bool,
     pub subtract: bool,
@@ -13,7 +13,7 @@ pub struct Flags {
 
 /// The registers of the processor (Pan Docs, 'CPU Registers and Flags'). F is kept as its flags, so
 /// that its low four bits are always 0.
-#[derive(Clone, Copy, Debug, PartialEq, Eq)]
+#[derive(Clone, Copy, PartialEq, Eq)]
 pub struct Registers {
     pub a: u8,
     pub flags: Flags,
@@ -28,14 +28,14 @@ pub struct Registers {
 }
 
 /// The value that an 8-bit operation gives, and the flags after it.
-#[derive(Clone, Copy, Debug, PartialEq, Eq)]
+#[derive(Clone, Copy)]
 pub struct Outcome {
     pub value: u8,
     pub flags: Flags,
 }
 
 /// The value that a 16-bit operation gives, and the flags after it.
-#[derive(Clone, Copy, Debug, PartialEq, Eq)]
+#[derive(Clone, Copy)]
 pub struct WordOutcome {
     pub value: u16,
     pub flags: Flags,

@@ -14,7 +14,7 @@ use opcode_table::{Operand8, Register16};
 use sm83_alu::{Outcome, Registers};
 
 /// Whether the processor takes ime, waits or repeats a byte.
-#[derive(Clone, Copy, Debug, PartialEq, Eq)]
+#[derive(Clone, Copy, PartialEq, Eq)]
 pub struct ProcessorState {
     /// IME.
     pub ime: bool,

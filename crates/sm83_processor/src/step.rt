@@ -9,7 +9,7 @@ use crate::processor::Processor;
 
 /// An instruction that ran: where it was, the three bytes that were fetched, and how many of them
 /// are its own.
-#[derive(Clone, Copy, Debug, PartialEq, Eq)]
+#[derive(Clone, Copy)]
 pub struct Executed {
     pub pc: u16,
     pub bytes: [u8; 3],
@@ -17,7 +17,7 @@ pub struct Executed {
 }
 
 /// What a step did.
-#[derive(Clone, Copy, Debug, PartialEq, Eq)]
+#[derive(Clone, Copy)]
 pub enum StepKind {
     /// An interrupt was dispatched to this vector.
     Dispatch(u16),
@@ -28,7 +28,7 @@ pub enum StepKind {
 }
 
 /// What a step did, and how many M-cycles passed in it: 1 to 6.
-#[derive(Clone, Copy, Debug, PartialEq, Eq)]
+#[derive(Clone, Copy)]
 pub struct Stepped {
     pub kind: StepKind,
     pub cycles: u8,

@@ -6,7 +6,7 @@ ghost use Rattle.snapshot.specs.Table.{number_of, part_of, is_magic_at, is_legal
 ghost use Rattle.snapshot.specs.Reading.{word_at};
 
 /// Which bytes a field may have.
-#[derive(Clone, Copy, Debug, PartialEq, Eq)]
+#[derive(Clone, Copy)]
 pub enum Rule {
     /// All.
     Any,
@@ -24,7 +24,7 @@ pub enum Rule {
 
 /// A field: where it begins, how many bytes it has, and which it may have. One of two bytes is a number with the low byte
 /// first.
-#[derive(Clone, Copy, Debug, PartialEq, Eq)]
+#[derive(Clone, Copy)]
 pub struct SnapshotField {
     pub offset: u32,
     pub width: u32,

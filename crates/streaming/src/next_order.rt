@@ -8,7 +8,7 @@ use crate::order::{MOST_BYTES, Order, read_order};
 use input_lines::{Filled, LineInput, Unread, drop_first, fill, line_length};
 
 /// What comes next.
-#[derive(Clone, Copy, Debug, PartialEq, Eq)]
+#[derive(Clone, Copy)]
 pub enum Next {
     /// A line, and what it asks for: nothing if it is empty. The bytes that it asks for are not read yet.
     Line(Option<Order>),

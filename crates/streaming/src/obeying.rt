@@ -35,7 +35,7 @@ use snapshot::length;
 use std::alloc::Global;
 
 /// How a stream ends.
-#[derive(Clone, Copy, Debug, PartialEq, Eq)]
+#[derive(Clone, Copy, Debug)]
 pub enum End {
     /// At the end of its input.
     Whole,
@@ -50,7 +50,7 @@ pub enum End {
 }
 
 /// How far a line went.
-#[derive(Clone, Copy, Debug, PartialEq, Eq)]
+#[derive(Clone, Copy)]
 pub(crate) enum Went {
     /// It was obeyed.
     On,

@@ -14,7 +14,7 @@ pub(crate) const MOST_BYTES: usize = 64;
 const SPACE: u8 = b' ';
 
 /// What a line asks for.
-#[derive(Clone, Copy, Debug, PartialEq, Eq)]
+#[derive(Clone, Copy)]
 pub enum Order {
     /// A move, as in a script.
     Make(Move),

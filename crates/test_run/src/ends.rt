@@ -7,7 +7,7 @@ use machine::{Machine, Memory, Processor, ProcessorState};
 use memory_map::Bus;
 
 /// Why a test ended.
-#[derive(Clone, Copy, Debug, PartialEq, Eq)]
+#[derive(Clone, Copy, Debug)]
 pub enum End {
     /// All frames were played.
     Frames,

@@ -1,20 +1,22 @@
 //! A whole test.
 
-ghost use Rattle.std.specs.Prelude.{◌≡◌, ◌≤◌, ◌<◌, ◌++◌, [], ◌∷◌, true, IfOk, IfErr, OnErr, OnOk, replicate};
+ghost use Rattle.std.specs.Prelude.{◌≡◌, ◌≤◌, ◌<◌, ◌++◌, [], ◌∷◌, ℕ, List, Option, None, true, IfOk, IfErr, OnErr, OnOk, replicate};
 ghost use Rattle.std.specs.Io.KnownBytes.{Appends};
 ghost use Rattle.bank_controllers.specs.CartridgeState.{IsSameCartridge};
-ghost use Rattle.machine.specs.Machine.{Frame, start};
+ghost use Rattle.machine.specs.Machine.{Frame, MachineState, cycles_per_frame, powered, seconds_passed, start};
+ghost use Rattle.machine.specs.Watched.{begun_with, seen_in};
 ghost use Rattle.debugger.specs.Registers.{register_line};
 ghost use Rattle.script.specs.Inputs.{inputs_of_move, inputs_of_moves};
 ghost use Rattle.test_run.specs.Tested.{tested, frames_with};
 ghost use Rattle.test_run.specs.Text.{test_text};
 ghost use Rattle.test_run.specs.Verdict.{verdict_of};
-ghost use Rattle.test_run.specs.Playing.{HasReached, HasEnded, StopsIn, IsKeptBy, IsMoveStop, IsMovesStop, IsTestStop};
+ghost use Rattle.test_run.specs.declared.run.Progress.{Progress as ProgressNow};
+ghost use Rattle.test_run.specs.Playing.{HasPlayed, HasReached, HasEnded, StopsIn, IsKeptBy, IsMoveStop, IsMovesStop, IsTestStop};
 ghost use Rattle.test_run.specs.Refusals.{IsTested, IsTestRefused};
 
 use crate::ends::End;
 use crate::error::TestError;
-use crate::frame::play_frame;
+use crate::frame::{PlayedFrame, play_frame};
 use crate::told::Told;
 use crate::verdict::{Verdict, verdict_by};
 use crate::writing::write_end;
@@ -44,7 +46,7 @@ pub(crate) enum Went {
 }
 
 /// Why a test stops before its end.
-#[derive(Clone, Copy, Debug, PartialEq, Eq)]
+#[derive(Clone, Copy)]
 pub(crate) enum Stop {
     /// There is no memory for a power switch.
     Memory,
@@ -73,6 +75,15 @@ fn ended_at(processor: &Processor<Bus>, why: End) -> Ended
     }
 }
 
+/// Ends a test whose frames are done.
+fn all_done(machine: Machine) -> Ended
+    ensures line { result.line.bytes ≡ register_line machine.processor }
+    ensures registers { result.registers ≡ machine.processor.registers }
+    ensures why { result.why ≡ End.Frames }
+{
+    ended_at(machine.processor(), End::Frames)
+}
+
 fn frames_with(why: End, done: u32) -> u32
     requires { done < 4294967295 }
     ensures { result ≡ frames_with why done }
@@ -80,6 +91,29 @@ fn frames_with(why: End, done: u32) -> u32
     match why {
         End::Breakpoint => done,
         End::Frames | End::Locked | End::Loop | End::Memory(_) => done + 1,
+    }
+}
+
+/// Goes on after a frame, or ends the test there.
+fn after_frame(played: PlayedFrame, progress: &mut Progress) -> Went
+    requires done { progress.old.done < 4294967295 }
+    requires over { played.end ≡ None → cycles_per_frame ≤ played.frame.passed }
+    ensures ok { (limit buttons : ℕ) (machine : MachineState) (old : ProgressNow) (a b : Option (List ℕ)) →
+        old.done ≡ progress.old.done → old.done < limit →
+        HasPlayed (seen_in (begun_with buttons machine)) old.told progress.old.told a b played →
+        HasReached limit (Frame buttons ∷ []) [] machine old progress.new a b result }
+    ensures kept { (buttons : ℕ) (machine : MachineState) →
+        played.frame ≡ (seen_in (begun_with buttons machine)).end → IsKeptBy machine result }
+{
+    match played.end {
+        Some(why) => {
+            progress.done = frames_with(why, progress.done);
+            Went::Over(ended_at(played.frame.processor(), why))
+        }
+        None => {
+            progress.done += 1;
+            Went::On(played.frame.end())
+        }
     }
 }
 
@@ -100,21 +134,11 @@ fn test_frame<W: Output>(
     ensures kept { IfOk result (IsKeptBy machine) }
 {
     if progress.done >= limit {
-        return Ok(Went::Over(ended_at(machine.processor(), End::Frames)));
+        return Ok(Went::Over(all_done(machine)));
     }
-    let played = match play_frame(machine, buttons, &mut progress.told, out) {
-        Ok(played) => played,
-        Err(fault) => return Err(fault),
-    };
-    match played.end {
-        Some(why) => {
-            progress.done = frames_with(why, progress.done);
-            Ok(Went::Over(ended_at(played.frame.processor(), why)))
-        }
-        None => {
-            progress.done += 1;
-            Ok(Went::On(played.frame.end()))
-        }
+    match play_frame(machine, buttons, &mut progress.told, out) {
+        Ok(played) => Ok(after_frame(played, progress)),
+        Err(fault) => Err(fault),
     }
 }
 
@@ -148,6 +172,26 @@ fn test_frames<W: Output>(
     Ok(Went::On(machine))
 }
 
+fn after_seconds(machine: Machine, seconds: u32) -> Machine
+    ensures { result ≡ seconds_passed seconds machine }
+{
+    let mut machine = machine;
+    machine.apply(Input::Seconds(seconds));
+    machine
+}
+
+fn switched(machine: Machine, alloc: Global, cartridge: &Cartridge) -> Result<Went, Stop>
+    requires { IsSameCartridge machine.processor.memory.banks (start cartridge.now).processor.memory.banks }
+    ensures ok { IfOk result (λ went. went ≡ Went.On (powered machine)) }
+    ensures err { IfErr result (λ why. why ≡ Stop.Memory) }
+    ensures kept { IfOk result (IsKeptBy machine) }
+{
+    match powered(alloc, cartridge, &machine) {
+        Ok(fresh) => Ok(Went::On(fresh)),
+        Err(_) => Err(Stop::Memory),
+    }
+}
+
 /// Makes a move of a test.
 fn test_move<W: Output>(
     machine: Machine,
@@ -175,16 +219,9 @@ fn test_move<W: Output>(
                 Err(_) => Err(Stop::Output),
             }
         }
-        Move::Seconds(seconds) => {
-            let mut machine = machine;
-            machine.apply(Input::Seconds(seconds));
-            Ok(Went::On(machine))
-        }
+        Move::Seconds(seconds) => Ok(Went::On(after_seconds(machine, seconds))),
         Move::Save => Ok(Went::On(machine)),
-        Move::Power => match powered(alloc, cartridge, &machine) {
-            Ok(fresh) => Ok(Went::On(fresh)),
-            Err(_) => Err(Stop::Memory),
-        },
+        Move::Power => switched(machine, alloc, cartridge),
     }
 }
 
@@ -244,7 +281,7 @@ fn test_to_end<W: Output>(
         Err(why) => return Err(why),
     };
     match test_frames(machine, 0, limit, limit, progress, out) {
-        Ok(Went::On(machine)) => Ok(ended_at(machine.processor(), End::Frames)),
+        Ok(Went::On(machine)) => Ok(all_done(machine)),
         Ok(Went::Over(ended)) => Ok(ended),
         Err(_) => Err(Stop::Output),
     }

@@ -4,7 +4,7 @@ ghost use Rattle.std.specs.Prelude.{◌≡◌};
 
 /// Interrupts that were requested, as bits of the interrupt flag register IF (FF0F): bit 2 is the timer's, bit 3 the
 /// serial port's (Pan Docs, "Interrupts").
-#[derive(Clone, Copy, Debug, PartialEq, Eq)]
+#[derive(Clone, Copy)]
 pub struct Requests {
     pub bits: u8,
 }

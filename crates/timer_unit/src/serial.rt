@@ -7,7 +7,7 @@ use std::marker::Model;
 
 /// What a snapshot holds of the serial port. It is legal if SC has no bits but 7 and 0, and at most 1,024 M-cycles are
 /// left.
-#[derive(Clone, Copy, Debug, PartialEq, Eq)]
+#[derive(Clone, Copy, PartialEq, Eq)]
 pub struct SerialState {
     pub sb: u8,
     /// Bits 7 and 0 of SC.

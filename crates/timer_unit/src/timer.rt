@@ -6,7 +6,7 @@ use crate::requests::Requests;
 use std::marker::Model;
 
 /// What a snapshot holds of the timer. It is legal if TAC is below 8.
-#[derive(Clone, Copy, Debug, PartialEq, Eq)]
+#[derive(Clone, Copy, PartialEq, Eq)]
 pub struct TimerState {
     /// Grows by 4 per M-cycle; DIV is its high byte.
     pub counter: u16,

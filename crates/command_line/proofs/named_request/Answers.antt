@@ -20,23 +20,23 @@ returns-in-step c = rw c.in-step.is (λ words command passes.
 pub returns-in-new : goal.returns-in-new
 returns-in-new c = rw c.in-new.is (λ words command passes.
     let rows = rows_of (found_of c.args.values.now) in
-    number_or_none (λ more. IsCommand words (codes "new") (c.operand-cart.result.now ∷ c.operand-in-new.result.now ∷ more)) 1 65536 (PassesAs (number (codes "SECTORS") 1 65536) rows)
-    (λ o. AsksFor words (New c.operand-cart.result c.operand-in-new.result o)) (λ asked. asked) (λ n number asked within. (number, asked, within))
+    number_or_none (λ more. IsCommand words (codes "new") (c.operand-cart.result.now ∷ c.operand-save.result.now ∷ more)) 1 65536 (PassesAs (number (codes "SECTORS") 1 65536) rows)
+    (λ o. AsksFor words (New c.operand-cart.result c.operand-save.result o)) (λ asked. asked) (λ n number asked within. (number, asked, within))
     (first_of (codes "SECTORS") rows) c.optional_number.result c.optional_number.ensures.none (λ given passing. c.optional_number.ensures.some 1 65536 given (omega arith) passing) passes.1.1.0
-    (rw (c.operand-cart.ensures, c.operand-in-new.ensures) command))
+    (rw (c.operand-cart.ensures, c.operand-save.ensures) command))
 
 pub returns-in-play : goal.returns-in-play
-returns-in-play c = rw c.in-play.is (λ words command passes. rw (c.operand-cart.ensures, c.operand-in-play.ensures, c.operand-in-play-2.ensures) command)
+returns-in-play c = rw c.in-play.is (λ words command passes. rw (c.operand-cart.ensures, c.operand-save.ensures, c.operand-in-play.ensures) command)
 
 pub returns-in-frame : goal.returns-in-frame
-returns-in-frame c = rw c.in-frame.is (λ words command passes. rw (c.operand-cart.ensures, c.operand-in-frame.ensures, c.operand-in-frame-2.ensures) command)
+returns-in-frame c = rw c.in-frame.is (λ words command passes. rw (c.operand-cart.ensures, c.operand-save.ensures, c.operand-out.ensures) command)
 
 pub returns-in-trace : goal.returns-in-trace
 returns-in-trace c = rw c.in-trace.is (λ words command passes.
-    (given_at (codes "COUNT") (rows_of (found_of c.args.values.now)), rw (c.operand-cart.ensures, c.operand-in-trace.ensures) command, c.number-in-trace.ensures 1 1024 (omega arith) passes.1.1.0))
+    (given_at (codes "COUNT") (rows_of (found_of c.args.values.now)), rw (c.operand-cart.ensures, c.operand-save.ensures) command, c.number-in-trace.ensures 1 1024 (omega arith) passes.1.1.0))
 
 pub returns-in-stream : goal.returns-in-stream
-returns-in-stream c = rw c.in-stream.is (λ words command passes. rw (c.operand-cart.ensures, c.operand-in-stream.ensures) command)
+returns-in-stream c = rw c.in-stream.is (λ words command passes. rw (c.operand-cart.ensures, c.operand-save.ensures) command)
 
 pub returns-in-test : goal.returns-in-test
 returns-in-test c = rw c.in-test.is (λ words command passes.
@@ -49,30 +49,30 @@ returns-in-test c = rw c.in-test.is (λ words command passes.
 
 pub returns-in-text : goal.returns-in-text
 returns-in-text c = rw c.in-text.is (λ words command passes.
-    (given_at (codes "SECTORS") (rows_of (found_of c.args.values.now)), rw (c.operand-cart.ensures, c.operand-in-text.ensures) command, c.number-in-text.ensures 1 65536 (omega arith) passes.1.1.0))
+    (given_at (codes "SECTORS") (rows_of (found_of c.args.values.now)), rw (c.operand-cart.ensures, c.operand-recording.ensures) command, c.number-in-text.ensures 1 65536 (omega arith) passes.1.1.0))
 
 pub returns-in-record : goal.returns-in-record
-returns-in-record c = rw c.in-record.is (λ words command passes. rw (c.operand-cart.ensures, c.operand-in-record.ensures, c.operand-in-record-2.ensures) command)
+returns-in-record c = rw c.in-record.is (λ words command passes. rw (c.operand-cart.ensures, c.operand-save.ensures, c.operand-recording.ensures) command)
 
 pub returns-in-recorded : goal.returns-in-recorded
-returns-in-recorded c = rw c.in-recorded.is (λ words command passes. rw (c.operand-cart.ensures, c.operand-in-recorded.ensures) command)
+returns-in-recorded c = rw c.in-recorded.is (λ words command passes. rw (c.operand-cart.ensures, c.operand-recording.ensures) command)
 
 pub returns-in-verify : goal.returns-in-verify
-returns-in-verify c = rw c.in-verify.is (λ words command passes. rw (c.operand-cart.ensures, c.operand-in-verify.ensures, c.operand-in-verify-2.ensures) command)
+returns-in-verify c = rw c.in-verify.is (λ words command passes. rw (c.operand-cart.ensures, c.operand-save.ensures, c.operand-recording.ensures) command)
 
 pub returns-in-show : goal.returns-in-show
-returns-in-show c = rw c.in-show.is (λ words command passes. rw (c.operand-cart.ensures, c.operand-in-show.ensures) command)
+returns-in-show c = rw c.in-show.is (λ words command passes. rw (c.operand-cart.ensures, c.operand-save.ensures) command)
 
 pub returns-in-export : goal.returns-in-export
-returns-in-export c = rw c.in-export.is (λ words command passes. rw (c.operand-cart.ensures, c.operand-in-export.ensures, c.operand-in-export-2.ensures) command)
+returns-in-export c = rw c.in-export.is (λ words command passes. rw (c.operand-cart.ensures, c.operand-save.ensures, c.operand-out.ensures) command)
 
 pub returns-in-import : goal.returns-in-import
 returns-in-import c = rw c.in-import.is (λ words command passes.
     let rows = rows_of (found_of c.args.values.now) in
-    number_or_none (λ more. IsCommand words (codes "import") (c.operand-cart.result.now ∷ c.operand-in-import.result.now ∷ c.operand-in-import-2.result.now ∷ more)) 1 65536 (PassesAs (number (codes "SECTORS") 1 65536) rows)
-    (λ o. AsksFor words (Import c.operand-cart.result c.operand-in-import.result c.operand-in-import-2.result o)) (λ asked. asked) (λ n number asked within. (number, asked, within))
+    number_or_none (λ more. IsCommand words (codes "import") (c.operand-cart.result.now ∷ c.operand-in-import.result.now ∷ c.operand-save.result.now ∷ more)) 1 65536 (PassesAs (number (codes "SECTORS") 1 65536) rows)
+    (λ o. AsksFor words (Import c.operand-cart.result c.operand-in-import.result c.operand-save.result o)) (λ asked. asked) (λ n number asked within. (number, asked, within))
     (first_of (codes "SECTORS") rows) c.optional_number-in-import.result c.optional_number-in-import.ensures.none (λ given passing. c.optional_number-in-import.ensures.some 1 65536 given (omega arith) passing) passes.1.1.1.0
-    (rw (c.operand-cart.ensures, c.operand-in-import.ensures, c.operand-in-import-2.ensures) command))
+    (rw (c.operand-cart.ensures, c.operand-in-import.ensures, c.operand-save.ensures) command))
 
 pub returns-in-debug : goal.returns-in-debug
 returns-in-debug c = rw c.in-debug.is (λ words command passes.

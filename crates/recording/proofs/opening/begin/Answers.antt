@@ -1,7 +1,7 @@
-use Rattle.std.proofs.Common.{rules, ◌≡◌, ◌≤◌, length, set, sym, ap, subst, arith}
+use Rattle.std.proofs.Common.{rules, ◌≡◌, ◌≤◌, inl, inr, length, set, sym, ap, subst, arith}
 use Rattle.sector_device.specs.Runs.{HoldsThroughout, Mixed}
-use Rattle.sector_device.proofs.Looking.{looked_synced, looked_then, settled_looked}
-use Rattle.sector_device.proofs.Runs.{has_synced}
+use Rattle.sector_device.proofs.Looking.{looked_synced, looked_then, looks_then, settled_looked}
+use Rattle.sector_device.proofs.Runs.{has_synced, throughout_weaker}
 use Rattle.recording.specs.Calls.{IsBlank, IsOldOrEmpty}
 use Rattle.recording.specs.Format.{head}
 use Rattle.recording.proofs.Beginning.{head_written}
@@ -32,3 +32,34 @@ returns-in_err-sync-2-clause-moments g c = λ honest. let run = held g (goal.at.
 
 pub returns-clause-moments : goal.returns-clause-moments
 returns-clause-moments g c = λ honest. let run = held g (goal.at.returns-clause-moments g c).After-write honest in (has_synced run (c.sync-2.ensures.synced run.honest)).throughout
+
+pub returns-in_err-blank-clause-moments : goal.returns-in_err-blank-clause-moments
+returns-in_err-blank-clause-moments g c = λ honest.
+    throughout_weaker ((looks_then (λ h. looked_synced (c.sync.ensures.synced h)) c.is_blank.ensures.looked) honest).time (λ i was. inl was)
+
+pub returns-in_err-blank-clause-past : goal.returns-in_err-blank-clause-past
+returns-in_err-blank-clause-past g c = λ honest.
+    ((looks_then (λ h. looked_synced (c.sync.ensures.synced h)) c.is_blank.ensures.looked) honest).past
+
+pub returns-then-not-blank-clause-moments : goal.returns-then-not-blank-clause-moments
+returns-then-not-blank-clause-moments g c = λ honest.
+    throughout_weaker ((looks_then (λ h. looked_synced (c.sync.ensures.synced h)) c.is_blank.ensures.looked) honest).time (λ i was. inl was)
+
+pub returns-then-not-blank-clause-past : goal.returns-then-not-blank-clause-past
+returns-then-not-blank-clause-past g c = λ honest.
+    ((looks_then (λ h. looked_synced (c.sync.ensures.synced h)) c.is_blank.ensures.looked) honest).past
+
+pub returns-then-not-blank-clause-untouched : goal.returns-then-not-blank-clause-untouched
+returns-then-not-blank-clause-untouched g c = inr (looks_then (λ h. looked_synced (c.sync.ensures.synced h)) c.is_blank.ensures.looked)
+
+pub returns-in_err-write-clause-past : goal.returns-in_err-write-clause-past
+returns-in_err-write-clause-past g c = λ honest. (held g (goal.at.returns-in_err-write-clause-past g c).After-write honest).past
+
+pub returns-in_err-sync-2-clause-past : goal.returns-in_err-sync-2-clause-past
+returns-in_err-sync-2-clause-past g c = λ honest.
+    let run = held g (goal.at.returns-in_err-sync-2-clause-past g c).After-write honest in
+    (has_synced run (c.sync-2.ensures.synced run.honest)).past
+
+pub returns-clause-past : goal.returns-clause-past
+returns-clause-past g c = λ honest.
+    let run = held g (goal.at.returns-clause-past g c).After-write honest in (has_synced run (c.sync-2.ensures.synced run.honest)).past

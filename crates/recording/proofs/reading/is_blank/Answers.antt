@@ -1,8 +1,8 @@
 use Rattle.std.proofs.Common.{rules, ◌≡◌, inl, inr, length, sym, ap, ◌∙◌, arith}
 use Rattle.std.proofs.lemmas.Bool.{cases_eq}
 use Rattle.sector_device.specs.DiskState.{sector_at}
-use Rattle.sector_device.proofs.Looking.{looked_read, looked_then}
-use Rattle.sector_device.proofs.Runs.{one_more}
+use Rattle.sector_device.proofs.Looking.{looked_read, looks_then}
+use Rattle.sector_device.proofs.Runs.{one_more, all_called, failed_then}
 use Rattle.recording.proofs.Beginning.{blank_of_zeros}
 use Rattle.recording.proofs.reading.is_blank.Goals as goal
 
@@ -11,7 +11,7 @@ loop-at-preserved g c =
     let old = g.D.SectorDevice.disk c.args.device.now in
     record {
       called = one_more c.loop-at.invariant.called c.in_ok-read.ensures.called;
-      looked = λ honest. let looked = c.loop-at.invariant.looked honest in looked_then looked (looked_read (c.read.ensures.read looked.honest));
+      looked = looks_then c.loop-at.invariant.looked (λ honest. looked_read (c.read.ensures.read honest));
       blank = λ honest k le. elim (cases_eq k c.loop-at.at) [
         | inl here ↦
             let looked = c.loop-at.invariant.looked honest in
@@ -21,3 +21,15 @@ loop-at-preserved g c =
         | inr other ↦ c.loop-at.invariant.blank honest k (omega arith)
       ];
     }
+
+pub returns-in_err-read-clause-called : goal.returns-in_err-read-clause-called
+returns-in_err-read-clause-called g c = failed_then c.loop-at.invariant.called c.in_err-read.ensures.called c.from_residual.ensures.0
+
+pub returns-in_err-read-clause-looked : goal.returns-in_err-read-clause-looked
+returns-in_err-read-clause-looked g c = looks_then c.loop-at.invariant.looked (λ honest. looked_read (c.read.ensures.read honest))
+
+pub returns-then-not-is_zeros-clause-called : goal.returns-then-not-is_zeros-clause-called
+returns-then-not-is_zeros-clause-called g c = all_called (one_more c.loop-at.invariant.called c.in_ok-read.ensures.called)
+
+pub returns-then-not-is_zeros-clause-looked : goal.returns-then-not-is_zeros-clause-looked
+returns-then-not-is_zeros-clause-looked g c = looks_then c.loop-at.invariant.looked (λ honest. looked_read (c.read.ensures.read honest))

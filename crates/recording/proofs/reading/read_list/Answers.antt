@@ -1,7 +1,7 @@
 use Rattle.std.proofs.Common.{rules, ◌≡◌, ◌<◌, ◌≤◌, ◌+◌, ℕ, List, [], length, sym, ap, ◌∙◌, subst, arith}
 use Rattle.sector_device.specs.DiskState.{sector_at}
-use Rattle.sector_device.proofs.Looking.{looked_read, looked_then}
-use Rattle.sector_device.proofs.Runs.{one_more}
+use Rattle.sector_device.proofs.Looking.{looked_read, looks_then}
+use Rattle.sector_device.proofs.Runs.{one_more, all_called, failed_then}
 use Rattle.input_entries.specs.Inputs.{inputs}
 use Rattle.recording.specs.Format.{entries_at}
 use Rattle.recording.specs.Keeping.{EndsAt}
@@ -59,7 +59,7 @@ loop-full-preserved g c =
       called = one_more c.loop-full.invariant.called c.in_ok-read.ensures.called;
       capacity = omega (arith, c.loop-full.invariant.capacity, c.read_entries.ensures.capacity);
       few = omega (arith, c.loop-full.invariant.few, c.count_inputs-input_count.ensures.few);
-      looked = λ honest. let looked = c.loop-full.invariant.looked honest in looked_then looked (looked_read (c.read.ensures.read looked.honest));
+      looked = looks_then c.loop-full.invariant.looked (λ h. looked_read (c.read.ensures.read h));
       each_full = λ honest. each_more (old g before) full c.loop-full.input_count (c.loop-full.invariant.each_full honest) (c.loop-full.invariant.counted honest) c.read.new.buffer (is g before honest) (less g before) whole;
       counted = λ honest.
           counted_more (old g before) full c.loop-full.input_count (c.loop-full.invariant.each_full honest) (c.loop-full.invariant.counted honest) c.read.new.buffer (c.loop-full.input_count + c.count_inputs-input_count.result) (is g before honest) (less g before)
@@ -83,3 +83,18 @@ pub returns-clause-counted : goal.returns-clause-counted
 returns-clause-counted g c = λ honest.
     counted_here (g.D.SectorDevice.disk c.args.device.now).sectors c.loop-full.full c.loop-full.input_count (c.loop-full.invariant.each_full honest) (c.loop-full.invariant.counted honest) [] c.loop-full.input_count
     (at_end g (goal.at.returns-clause-counted g c).After-clear honest) (omega arith) (omega arith)
+
+pub returns-in_err-read-clause-called : goal.returns-in_err-read-clause-called
+returns-in_err-read-clause-called g c = failed_then c.loop-full.invariant.called c.in_err-read.ensures.called c.from_residual.ensures.0
+
+pub returns-in_err-read-clause-looked : goal.returns-in_err-read-clause-looked
+returns-in_err-read-clause-looked g c = looks_then c.loop-full.invariant.looked (λ h. looked_read (c.read.ensures.read h))
+
+pub returns-then-len-lt-ENTRIES_PER_SECTOR-clause-called : goal.returns-then-len-lt-ENTRIES_PER_SECTOR-clause-called
+returns-then-len-lt-ENTRIES_PER_SECTOR-clause-called g c = all_called (one_more c.loop-full.invariant.called c.in_ok-read.ensures.called)
+
+pub returns-then-len-lt-ENTRIES_PER_SECTOR-clause-looked : goal.returns-then-len-lt-ENTRIES_PER_SECTOR-clause-looked
+returns-then-len-lt-ENTRIES_PER_SECTOR-clause-looked g c = looks_then c.loop-full.invariant.looked (λ h. looked_read (c.read.ensures.read h))
+
+pub returns-clause-called : goal.returns-clause-called
+returns-clause-called g c = all_called c.loop-full.invariant.called

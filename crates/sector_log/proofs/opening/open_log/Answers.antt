@@ -3,7 +3,7 @@ use Rattle.log_format.specs.Content.{chosen, last_generation, content}
 use Rattle.log_format.specs.Found.{blob_in, seen_in}
 use Rattle.sector_log.specs.OpenedAccessors.{seen}
 use Rattle.sector_log.proofs.Findings.{seen_is, sound_with}
-use Rattle.sector_device.proofs.Looking.{looked_then, settled_looked, has_looked}
+use Rattle.sector_device.proofs.Looking.{looks_then, settled_looked, has_looked}
 use Rattle.sector_log.proofs.Looking.{found_looked}
 use Rattle.sector_log.proofs.opening.open_log.Goals as goal
 
@@ -22,15 +22,20 @@ invariant_of-result-clause-blob_is g c = λ honest_now.
 
 pub returns-clause-looked : goal.returns-clause-looked
 returns-clause-looked g c = λ honest.
-    let looked = c.read_chosen_log.ensures.looked honest in
-    has_looked (g.met.D.SectorDevice.only_now c.args.device) (looked_then looked (c.read_chosen_blob.ensures.looked looked.honest))
+    has_looked (g.met.D.SectorDevice.only_now c.args.device) (looks_then c.read_chosen_log.ensures.looked c.read_chosen_blob.ensures.looked honest)
+
+pub returns-in_default-read_chosen_log-clause-looked : goal.returns-in_default-read_chosen_log-clause-looked
+returns-in_default-read_chosen_log-clause-looked g c = λ honest. has_looked (g.met.D.SectorDevice.only_now c.args.device) (c.read_chosen_log.ensures.looked honest)
+
+pub returns-in_default-read_chosen_blob-clause-looked : goal.returns-in_default-read_chosen_blob-clause-looked
+returns-in_default-read_chosen_blob-clause-looked g c = λ honest.
+    has_looked (g.met.D.SectorDevice.only_now c.args.device) (looks_then c.read_chosen_log.ensures.looked c.read_chosen_blob.ensures.looked honest)
 
 pub returns-clause-opened : goal.returns-clause-opened
 unfolding seen
 returns-clause-opened g c = record {
   settled = λ honest.
-      let looked = c.read_chosen_log.ensures.looked honest in
-      settled_looked (c.in-Ok-read_chosen_log.ensures.found honest).settled (c.read_chosen_blob.ensures.looked looked.honest);
+      settled_looked (c.in-Ok-read_chosen_log.ensures.found honest).settled (c.read_chosen_blob.ensures.looked (c.read_chosen_log.ensures.looked honest).honest);
   generation_is = λ honest.
       let looked = c.read_chosen_log.ensures.looked honest in
       ap last_generation (sym (c.in-Ok-read_chosen_log.ensures.found honest).chosen_is ∙ ap chosen looked.sectors);

@@ -1,8 +1,8 @@
 use Rattle.std.proofs.Common.{rules, ◌≡◌, ◌<◌, ◌+◌, ◌-◌, ◌*◌, ◌++◌, ℕ, List, length, take, drop, sym, ap, ◌∙◌, arith, append_assoc, length-append, length-take}
-use Rattle.sector_device.proofs.Runs.{one_more}
+use Rattle.sector_device.proofs.Runs.{one_more, all_called, failed_then}
 use Rattle.std.specs.List.{flat_map}
 use Rattle.sector_device.specs.DiskState.{sector_at}
-use Rattle.sector_device.proofs.Looking.{looked_read, looked_then}
+use Rattle.sector_device.proofs.Looking.{looked_read, looks_then}
 use Rattle.sector_log.proofs.Looking.{blob_next}
 use Rattle.sector_log.proofs.reading.read_blob.Goals as goal
 
@@ -19,7 +19,7 @@ loop-index-preserved g c =
       called = one_more c.loop-index.invariant.called c.in_ok-read.ensures.called;
       capacity = omega (arith, c.loop-index.invariant.capacity, c.push_bytes.ensures.capacity);
       done = omega (arith, ap length pushed, length-append c.loop-index.blob.items (take c.min-part.result bytes), length-take c.min-part.result bytes, long, c.loop-index.invariant.done, c.min-part.ensures, c.loop-index-test.true);
-      looked = λ honest. let looked = c.loop-index.invariant.looked honest in looked_then looked (looked_read (c.read.ensures.read looked.honest));
+      looked = looks_then c.loop-index.invariant.looked (λ honest. looked_read (c.read.ensures.read honest));
       blob = λ honest.
           let looked = c.loop-index.invariant.looked honest in
           let is : bytes ≡ sector_at old.sectors (c.args.start + index) =
@@ -29,3 +29,12 @@ loop-index-preserved g c =
           ∙ ap (λ (l : List ℕ). c.loop-index.blob.items ++ l) (blob_next old.sectors c.args.start c.args.room index c.args.size c.min-part.result bytes less c.requires.room is long c.min-part.ensures)
           ∙ sym (append_assoc c.loop-index.blob.items (take c.min-part.result bytes) rest) ∙ ap (λ (l : List ℕ). l ++ rest) (sym pushed);
     }
+
+pub returns-in_err-read-clause-called : goal.returns-in_err-read-clause-called
+returns-in_err-read-clause-called g c = failed_then c.loop-index.invariant.called c.in_err-read.ensures.called c.from_residual.ensures.0
+
+pub returns-in_err-read-clause-looked : goal.returns-in_err-read-clause-looked
+returns-in_err-read-clause-looked g c = looks_then c.loop-index.invariant.looked (λ honest. looked_read (c.read.ensures.read honest))
+
+pub returns-clause-called : goal.returns-clause-called
+returns-clause-called g c = all_called c.loop-index.invariant.called

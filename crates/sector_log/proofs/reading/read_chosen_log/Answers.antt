@@ -1,18 +1,12 @@
 use Rattle.std.proofs.Common.{◌≡◌, ◌≤◌, ◌+◌, ◌-◌, ◌*◌, ◌/◌, ◌%◌, Some, None, length, take, drop, true, false, sym, ap, ◌∙◌, subst, arith}
 use Rattle.sector_device.specs.DiskState.{Settled}
-use Rattle.sector_device.specs.Looking.{LooksOnly}
 use Rattle.log_format.specs.Log.{log_from}
 use Rattle.log_format.specs.Content.{chosen, area_length, area_start}
 use Rattle.sector_log.specs.Reading.{IsFound}
-use Rattle.sector_device.proofs.Looking.{looked_synced, looked_then, settled_looked}
+use Rattle.sector_device.proofs.Looking.{looked_synced, looks_then, settled_looked}
 use Rattle.sector_log.proofs.Looking.{nothing_chosen, found_short, found_log}
 use Rattle.log_format.proofs.ContentLaw.{enough_sectors}
-use Rattle.sector_log.proofs.reading.read_chosen_log.Given.{Over}
-use Rattle.sector_log.proofs.reading.read_chosen_log.Goals.{In_ok-chosen}
 use Rattle.sector_log.proofs.reading.read_chosen_log.Goals as goal
-
-looked : (g : Over) (c : In_ok-chosen g) → (g.D.SectorDevice.disk c.args.device.now).honest → LooksOnly (g.D.SectorDevice.disk c.args.device.now) (g.D.SectorDevice.disk c.read_chosen.new.device)
-looked g c honest = let sync = c.in_ok-sync_once.ensures.synced honest in looked_then (looked_synced sync) (c.read_chosen.ensures.looked sync.goes.honest)
 
 pub returns-then-area-root-clause-found : goal.returns-then-area-root-clause-found
 returns-then-area-root-clause-found g c = λ honest.
@@ -29,10 +23,12 @@ returns-then-area-root-clause-found g c = λ honest.
     subst (λ l. IsFound s2 (Some c.in-Some.root) true l) (sym c.requires.empty) (found_short s2 c.in-Some.root settled many is (omega (arith, area, c.if-area-root.true)))
 
 pub returns-in_err-read_log-clause-looked : goal.returns-in_err-read_log-clause-looked
-returns-in_err-read_log-clause-looked g c = λ honest. let l = looked g (goal.at.returns-in_err-read_log-clause-looked g c).In_ok-chosen honest in looked_then l (c.read_log.ensures.looked l.honest)
+returns-in_err-read_log-clause-looked g c =
+    looks_then (looks_then (λ h. looked_synced (c.sync_once.ensures.synced h)) c.read_chosen.ensures.looked) c.read_log.ensures.looked
 
 pub returns-clause-looked : goal.returns-clause-looked
-returns-clause-looked g c = λ honest. let l = looked g (goal.at.returns-clause-looked g c).In_ok-chosen honest in looked_then l (c.read_log.ensures.looked l.honest)
+returns-clause-looked g c =
+    looks_then (looks_then (λ h. looked_synced (c.sync_once.ensures.synced h)) c.read_chosen.ensures.looked) c.read_log.ensures.looked
 
 pub returns-clause-found : goal.returns-clause-found
 returns-clause-found g c = λ honest.
@@ -48,8 +44,8 @@ returns-clause-found g c = λ honest.
     let many : 2 ≤ length s3.sectors = omega (arith, many1, size) in
     let is : chosen s3.sectors ≡ Some root = ap chosen last.sectors ∙ ap chosen looked.sectors ∙ enough_sectors s1.sectors many1 ∙ sym (c.in_ok-chosen.ensures.root sync.goes.honest) ∙ c.in-Some.is in
     let area : area_length s3.sectors ≡ c.area_length-area.result = ap (λ n. (n - 2) / 2) (size ∙ sym c.count-count.ensures) ∙ sym c.area_length-area.ensures in
-    let start = 2 + root.generation % 2 * c.area_length-area.result in
-    let at : start ≡ area_start root.generation s3.sectors = ap (λ n. 2 + root.generation % 2 * n) (sym area) in
+    let start = c.area_start-start.result in
+    let at : start ≡ area_start root.generation s3.sectors = c.area_start-start.ensures.is ∙ (λ i. 2 + root.generation % 2 * sym area i) in
     let log : log_from root.version 0 (take 32 (drop start s3.sectors)) ≡ c.read_log.new.log.items = ap (λ l. log_from root.version 0 (take 32 (drop start l))) last.sectors ∙ c.in_ok-read_log.ensures.log looked.honest in
     found_log s3 root start c.read_log.new.log.items settled many is (omega (arith, area, c.if-area-root.false)) at log
 
@@ -64,4 +60,10 @@ returns-in_default-clause-found g c = λ honest.
     subst (IsFound s2 None false) (sym c.requires.empty) (nothing_chosen s2 (settled_looked sync.settled looked) none)
 
 pub returns-then-area-root-clause-looked : goal.returns-then-area-root-clause-looked
-returns-then-area-root-clause-looked g c = looked g (goal.at.returns-then-area-root-clause-looked g c).In_ok-chosen
+returns-then-area-root-clause-looked g c = looks_then (λ h. looked_synced (c.sync_once.ensures.synced h)) c.read_chosen.ensures.looked
+
+pub returns-in_err-chosen-clause-looked : goal.returns-in_err-chosen-clause-looked
+returns-in_err-chosen-clause-looked g c = looks_then (λ h. looked_synced (c.sync_once.ensures.synced h)) c.read_chosen.ensures.looked
+
+pub returns-in_default-clause-looked : goal.returns-in_default-clause-looked
+returns-in_default-clause-looked g c = looks_then (λ h. looked_synced (c.sync_once.ensures.synced h)) c.read_chosen.ensures.looked

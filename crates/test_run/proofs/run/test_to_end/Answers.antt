@@ -1,8 +1,5 @@
-use Rattle.std.proofs.Common.{◌++◌, ap, ◌∙◌, replicate}
-use Rattle.memory_map.specs.State.{BusState}
-use Rattle.sm83_processor.specs.declared.processor.Processor.{Processor}
+use Rattle.std.proofs.Common.{◌++◌, replicate}
 use Rattle.machine.specs.Machine.{Frame}
-use Rattle.debugger.specs.Registers.{register_line}
 use Rattle.script.specs.Inputs.{inputs_of_moves}
 use Rattle.test_run.proofs.Reaching.{ended_after_all, ended_among, ended_over, whole_reached, whole_stops}
 use Rattle.test_run.proofs.Stopping.{test_stopped}
@@ -19,10 +16,9 @@ returns-in-Ok-On-test_frames-clause-ok g c =
     let more = replicate c.args.limit (Frame 0) in
     let first = rw c.in-Ok-On.field-0-is at c.in-Ok-On.ensures.ok in
     let second = rw c.in-Ok-On-test_frames.field-0-is at c.in-Ok-On-test_frames.ensures.ok in
-    ended_after_all c.args.limit (given ++ more) c.args.machine c.in-Ok-On-test_frames.machine c.args.progress.now _ _ _ c.ended_at.result
+    ended_after_all c.args.limit (given ++ more) c.args.machine c.in-Ok-On-test_frames.machine c.args.progress.now _ _ _ c.all_done.result
     (whole_reached c.args.limit given more c.args.machine c.in-Ok-On.machine c.args.progress.now c.test_moves.new.progress _ _ _ _ _ first second)
-    (c.ended_at.ensures.line ∙ ap (λ (p : Processor BusState). register_line p) c.processor.ensures)
-    (c.ended_at.ensures.registers ∙ ap (λ (p : Processor BusState). p.registers) c.processor.ensures) c.ended_at.ensures.why
+    c.all_done.ensures.line c.all_done.ensures.registers c.all_done.ensures.why
 
 pub returns-in-Ok-Over-test_frames-clause-ok : goal.returns-in-Ok-Over-test_frames-clause-ok
 returns-in-Ok-Over-test_frames-clause-ok g c =

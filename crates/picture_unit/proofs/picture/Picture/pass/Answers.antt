@@ -15,23 +15,14 @@ returns-then-not-is_on c =
       stat = ap (λ (d : PictureAndRequests). d.stat) same;
     }
 
-pub returns-then-cycles-from-clause-picture : goal.returns-then-cycles-from-clause-picture
+pub returns-then-cycles-from : goal.returns-then-cycles-from
 unfolding unrequested
-returns-then-cycles-from-clause-picture c =
+returns-then-cycles-from c =
     let on : is_on c.self.inside.state ≡ true = sym c.is_on.ensures ∙ c.if-not-is_on.false in
     let before : c.args.cycles < next_change c.self.inside.state = omega (arith, c.change_at.ensures.change, c.from.ensures, c.if-cycles-from.true) in
-    ap (λ (d : PictureAndRequests). d.picture) (skips_before c.args.cycles c.self.inside.state c.args.self.now _ (ap (λ (s : PictureUnit). s.state) c.self.view_is) on before c.skip.ensures)
-
-pub returns-then-cycles-from-clause-vblank : goal.returns-then-cycles-from-clause-vblank
-unfolding unrequested
-returns-then-cycles-from-clause-vblank c =
-    let on : is_on c.self.inside.state ≡ true = sym c.is_on.ensures ∙ c.if-not-is_on.false in
-    let before : c.args.cycles < next_change c.self.inside.state = omega (arith, c.change_at.ensures.change, c.from.ensures, c.if-cycles-from.true) in
-    ap (λ (d : PictureAndRequests). d.vblank) (skips_before c.args.cycles c.self.inside.state c.args.self.now _ (ap (λ (s : PictureUnit). s.state) c.self.view_is) on before c.skip.ensures)
-
-pub returns-then-cycles-from-clause-stat : goal.returns-then-cycles-from-clause-stat
-unfolding unrequested
-returns-then-cycles-from-clause-stat c =
-    let on : is_on c.self.inside.state ≡ true = sym c.is_on.ensures ∙ c.if-not-is_on.false in
-    let before : c.args.cycles < next_change c.self.inside.state = omega (arith, c.change_at.ensures.change, c.from.ensures, c.if-cycles-from.true) in
-    ap (λ (d : PictureAndRequests). d.stat) (skips_before c.args.cycles c.self.inside.state c.args.self.now _ (ap (λ (s : PictureUnit). s.state) c.self.view_is) on before c.skip.ensures)
+    let same = skips_before c.args.cycles c.self.inside.state c.args.self.now _ (ap (λ (s : PictureUnit). s.state) c.self.view_is) on before c.skip.ensures in
+    record {
+      picture = ap (λ (d : PictureAndRequests). d.picture) same;
+      vblank = ap (λ (d : PictureAndRequests). d.vblank) same;
+      stat = ap (λ (d : PictureAndRequests). d.stat) same;
+    }

@@ -1,7 +1,7 @@
 use Rattle.std.proofs.Common.{arith, subst, sym, true≢false}
 use Rattle.std.specs.Str.{IsUtf8}
-use Rattle.digest_text.proofs.Digits.{digits_are_text, known}
-use Rattle.digest_text.proofs.digest_digits.Goals as goal
+use Rattle.exact_text.proofs.Digits.{digits_are_text, known}
+use Rattle.exact_text.proofs.digest.digest_digits.Goals as goal
 
 pub returns-in-Err : goal.returns-in-Err
 returns-in-Err c =
