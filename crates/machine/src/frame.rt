@@ -15,7 +15,7 @@ use crate::counting_loop::pass_count;
 use crate::polling_loop::pass_poll;
 use crate::waiting_loop::{may_wait, pass_laps};
 use memory_map::Bus;
-use sm83_processor::{FIRST_OWN_LOOP, InstructionOutcome, Processor, StepKind};
+use sm83_processor::{FIRST_OWN_LOOP, Processor, StepKind};
 
 /// The M-cycles of a frame.
 pub(crate) const FRAME: u32 = 17_556;
@@ -360,12 +360,8 @@ pub(crate) fn run_fast_step<const LOOP: u8>(
     ensures calm_more { result.is_calm ≡ true → is_last ≡ false }
     ensures fast_more { result.is_fast ≡ true → is_last ≡ false }
 {
-    let InstructionOutcome {
-        cycles,
-        is_usual,
-        is_memory_kept,
-    } = processor.run_opcode::<LOOP>(opcode);
-    if !is_usual {
+    let (cycles, usual, is_memory_kept) = processor.run_opcode::<LOOP>(opcode);
+    if !usual {
         pass_out_of_line(processor, cycles as u8);
         return AfterStep {
             now: passed_after(end, left, cycles),

@@ -19,6 +19,6 @@ mod still_steps;
 
 pub use lengths::length_of_opcode;
 pub use memory::Memory;
-pub use opcodes::{FIRST_OWN_LOOP, InstructionOutcome};
+pub use opcodes::FIRST_OWN_LOOP;
 pub use processor::{Processor, ProcessorState};
 pub use step::{Executed, StepKind, Stepped};

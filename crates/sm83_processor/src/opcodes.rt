@@ -30,52 +30,26 @@ pub(crate) const ANY_STEP: u8 = 0;
 /// the prefix CB are in line too.
 pub const FIRST_OWN_LOOP: u8 = 1;
 
-/// What an instruction took, and what is known after it.
-#[derive(Clone, Copy)]
-pub struct InstructionOutcome {
-    /// Its M-cycles.
-    pub cycles: u32,
-    /// Whether the next step is fast as well, unless an interrupt comes.
-    pub is_usual: bool,
-    /// Whether it is sure to have left the memory as it was.
-    pub is_memory_kept: bool,
-}
-
-impl InstructionOutcome {
-    #[inline(always)]
-    fn unusual(cycles: u32) -> InstructionOutcome
-        ensures { result ≡ record { cycles = cycles; is_usual = false; is_memory_kept = false } }
-    {
-        InstructionOutcome {
-            cycles,
-            is_usual: false,
-            is_memory_kept: false,
-        }
-    }
-}
-
 impl<M: Memory> Processor<M> {
-    /// Executes the instruction of this opcode, with PC still at the opcode. `LOOP` names the
-    /// caller's loop: code is made separately for each, so that it can be inlined there.
+    /// Executes the instruction of this opcode, with PC still at the opcode. Returns its M-cycles,
+    /// whether the next step is fast as well, unless an interrupt comes, and whether it is sure to
+    /// have left the memory as it was. `LOOP` names the caller's loop: code is made separately for
+    /// each, so that it can be inlined there.
     #[inline(always)]
-    pub fn run_opcode<const LOOP: u8>(&mut self, opcode: u8) -> InstructionOutcome
+    pub fn run_opcode<const LOOP: u8>(&mut self, opcode: u8) -> (u32, bool, bool)
         ensures after { self.new ≡ executed_after_fetch M.rules (instruction_at M.rules opcode (after_fetch self.old)) (after_fetch self.old) }
-        ensures cycles { result.cycles ≡ cycles_with (instruction_at M.rules opcode (after_fetch self.old)) self.old.registers.flags }
-        ensures few { result.cycles ≤ 6 }
-        ensures usual { result.is_usual ≡ true → IsUsual self.old.state → IsUsual self.new.state }
-        ensures memory { result.is_memory_kept ≡ true → self.new.memory ≡ self.old.memory }
+        ensures cycles { result.0 ≡ cycles_with (instruction_at M.rules opcode (after_fetch self.old)) self.old.registers.flags }
+        ensures few { result.0 ≤ 6 }
+        ensures usual { result.1 ≡ true → IsUsual self.old.state → IsUsual self.new.state }
+        ensures memory { result.2 ≡ true → self.new.memory ≡ self.old.memory }
     {
         let cycles = self.run_instruction::<LOOP>(opcode);
         match opcode {
-            STOP | HALT | ENABLE_INTERRUPTS => InstructionOutcome::unusual(cycles),
+            STOP | HALT | ENABLE_INTERRUPTS => (cycles, false, false),
             0xd3 | 0xdb | 0xdd | 0xe3 | 0xe4 | 0xeb | 0xec | 0xed | 0xf4 | 0xfc | 0xfd => {
-                InstructionOutcome::unusual(cycles)
+                (cycles, false, false)
             }
-            _ => InstructionOutcome {
-                cycles,
-                is_usual: true,
-                is_memory_kept: Self::keeps_memory(opcode, cycles),
-            },
+            _ => (cycles, true, Self::keeps_memory(opcode, cycles)),
         }
     }
 
@@ -86,7 +60,7 @@ impl<M: Memory> Processor<M> {
         ensures cycles { result ≡ cycles_with (instruction_at M.rules opcode (after_any_fetch self.old)) self.old.registers.flags }
     {
         self.end_halt_bug();
-        self.run_opcode::<ANY_STEP>(opcode).cycles as u8
+        self.run_opcode::<ANY_STEP>(opcode).0 as u8
     }
 
     /// Ends `halt_bug`, with PC at the address before that of the next byte to fetch.
