@@ -74,7 +74,7 @@ pub fn live<P: Player>(
         (reports_of lived.ends.items ++ lived.report.items ∷ [])
         (wholes_of lived.ends.items ++ true ∷ []) (position_of lived.game)) }
     ensures begun { IfOk result (λ lived. IsTakenUp cartridge.now lived.game) }
-    // each round was cut only where its fuse failed a call, and its cut kept the chosen writes
+    // a round was cut only where a call failed and a fuse is blown, and its cut kept the chosen writes
     ensures rounds { IfOk result (λ lived.
         EndsRounds P.asks cartridge.now (memories devices) rounds.now (reports_of lived.ends.items)
         (wholes_of lived.ends.items) lived.report.items (memories_of lived.game)) }
