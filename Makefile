@@ -209,7 +209,8 @@ test:
 	python3 -B scripts/no_memory.py
 	python3 -B scripts/no_memory.py --try
 	python3 -B scripts/edits.py --apply
-	$(RT) ci
+# a proof by one process: each more reads its libraries again
+	RT_JOBS=$$(python3 -B -c 'from scripts.build import jobs; print(jobs())') $(RT) ci
 	python3 -B scripts/program_tests/run.py $(PROGRAM)/out/gbkeep_program
 	$(PIL_PYTHON) -B scripts/front_door.py $(PROGRAM)/out/gbkeep_program
 	$(PIL_PYTHON) -B python/gbkeep_tests/test_players.py $(PROGRAM)/out/gbkeep_program

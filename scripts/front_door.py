@@ -9,7 +9,7 @@ from pathlib import Path
 
 FAULT_FILES = ['crates/cartridge/src/error.rt', 'crates/sector_device/src/device.rt', 'crates/script/src/error.rt', 'crates/session/src/error.rt',
                'crates/streaming/src/error.rt', 'crates/recording/src/fault.rt', 'crates/replaying/src/error.rt', 'crates/recorded_play/src/error.rt', 'crates/battery_files/src/error.rt',
-               'crates/debugging/src/error.rt', 'crates/debug_lines/src/error.rt']
+               'crates/debugging/src/error.rt', 'crates/commands/src/error.rt']
 FAULT_LINES, COMMANDS, LINES = 'crates/gbkeep/src/fault.rt', 'crates/command_line/specs/Commands.antt', 'crates/script/specs/Line.antt'
 README, MANUAL, MAN, COMPLETION, MAKE, TOOLS = 'README.md', 'docs/COMMANDS.md', 'docs/gbkeep.1', 'completions/gbkeep.bash', 'Makefile', 'python/gbkeep/faults.py'
 PLAYERS, TESTERS = 'docs/PLAYING.md', 'docs/TESTING_ROMS.md'

@@ -21,16 +21,15 @@ STANDARD = {'Vec::with_capacity', 'HeapCircularBuffer::with_capacity', 'Box::new
 # calls of ours whose type doesn't say that they are: these bodies are looked at
 ALONE = {
     'Debugger::new': 'debugger/src/debugger.rt',
-    'copy_of': 'debug_lines/src/copy.rt',
-    'debugger_of': 'gbkeep/src/trace.rt',
+    'copy_of': 'commands/src/copy.rt',
+    'debugger_of': 'commands/src/trace.rt',
     'note_more': 'embedding/src/game.rt',
 }
 # calls that answer `Ok(false)` where there was no memory, and in these files for nothing else
 FALSE = {'power', 'give_power', 'make_move', 'make_moves', 'play_on', 'obey_move', 'obey_keep'}
 # a call in a file that has other refusals, of which a clause or a condition says that they don't come there
 PROVED = {
-    ('debug_lines/src/copy.rt', 'decode'): 'the bytes are the snapshot of a machine of the cartridge',
-    ('gbkeep/src/trace.rt', 'decode'): 'the bytes are the snapshot of a machine of the cartridge',
+    ('commands/src/copy.rt', 'decode'): 'the bytes are the snapshot of a machine of the cartridge',
     ('gbkeep/src/batteries.rt', 'machine_with_battery'): 'the battery file is one that the cartridge takes',
     ('embedding/src/game.rt', 'write'): 'the device in memory has this sector',
     ('embedding/src/game.rt', 'sync'): 'the device in memory',
@@ -41,7 +40,7 @@ STATELESS = 'recorded_play/src/recorded_game.rt'
 # the calls that a body which gives up is put into
 TRIED = {
     'play': 'playing/src/played.rt', 'stream': 'streaming/src/streamed.rt', 'record': 'recorded_play/src/recorded.rt', 'run_test': 'test_run/src/run.rt',
-    'debug_rom': 'debug_lines/src/roms.rt', 'debug_game': 'debug_lines/src/games.rt', 'show_lines': 'save_lines/src/showing.rt',
+    'debug_rom': 'commands/src/debug.rt', 'debug_game': 'commands/src/debug.rt', 'show_lines': 'commands/src/show.rt',
     'resume': 'session/src/resuming.rt', 'read_script': 'script/src/lines.rt', 'power_on': 'machine/src/machine.rt', 'make_moves': 'playing/src/moves.rt',
     'obey': 'debugging/src/obeying.rt', 'gbkeep_make_machine': 'c_interface/src/machine_exports.rt',
 }

@@ -128,7 +128,9 @@ class Call:
     told), those that the body names, as they come, and the calls that it makes."""
 
     def __init__(self, name, head, contract, enums, behind, equations, causes, bodies):
-        error = re.search(r'(\w+)(?:<[\w, ]+>)?>\s*(?:where.*)?$', head.rpartition('->')[2].strip(), re.S)[1]
+        answer = head.rpartition('->')[2].strip()
+        handed = re.search(r'\bRefused<(\w+), \w+>', answer)
+        error = (handed or re.search(r'(\w+)(?:<[\w, ]+>)?>\s*(?:where.*)?$', answer, re.S))[1]
         # the fault of what a type parameter stands for has no variants here
         of_a_parameter = re.search(r'\b(?:Self|[A-Z])::Fault>', head.rpartition('->')[2])
         error = behind.get(error, error)
@@ -140,7 +142,7 @@ class Call:
         cans = [can for one in used for can in [possible(one, equations, self.variants)] if can is not None]
         self.can = set.intersection(*cans) if cans else self.variants if len(self.variants) == 1 else None
         # what a clause excludes by its name
-        excluded = {name for _, name in re.findall(r'\{ IfErr result \(λ (\w+)\. \1\.why ≢ (?:\w+\.)?([A-Z]\w+)\) \}', contract)}
+        excluded = {name for _, name in re.findall(r'\{ IfErr result \(λ (\w+)\. \1(?:\.why)? ≢ (?:\w+\.)?([A-Z]\w+)\) \}', contract)}
         self.can = self.can and self.can - excluded
         own = name.rpartition('::')[2]
         self.order = [one for one in answered(bodies, own) if one in (self.can or self.variants)]

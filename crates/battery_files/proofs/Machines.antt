@@ -1,5 +1,5 @@
 -- Machines with the RAM and the clocks of a battery file are legal.
-use Rattle.std.proofs.Common.{◌≡◌, ◌∙◌, ℕ, ◌+◌, ◌*◌, ◌/◌, ◌%◌, ◌<◌, ◌≤◌, Bool, true, List, length, map, take, replicate, refl, sym, ap, subst, arith}
+use Rattle.std.proofs.Common.{◌≡◌, ◌∙◌, ℕ, ◌*◌, ◌/◌, ◌%◌, ◌<◌, ◌≤◌, true, List, length, map, take, replicate, sym, ap, subst, arith}
 use Rattle.std.specs.Prelude.{Some}
 use Rattle.std.specs.List.{All}
 use Rattle.std.proofs.lemmas.List.{length-map, length-take-le, length-replicate}
@@ -11,7 +11,7 @@ use Rattle.cartridge.specs.declared.controller.Controller.TheVariants.{NoMbc, Mb
 use Rattle.bank_controllers.specs.declared.clock.ClockRegisters.{ClockRegisters}
 use Rattle.bank_controllers.specs.Clock.{IsLegalClock}
 use Rattle.bank_controllers.specs.State.{has_clock, IsClockOf}
-use Rattle.bank_controllers.specs.CartridgeState.{CartridgeState, IsLegalRam, cartridge_at_power_on}
+use Rattle.bank_controllers.specs.CartridgeState.{IsLegalRam, cartridge_at_power_on}
 use Rattle.bank_controllers.proofs.Legal.{ram_at_power_on}
 use Rattle.memory_map.specs.Stores.{FitsRegion}
 use Rattle.memory_map.specs.declared.region.Region.TheVariants.{CartRam}

@@ -12,7 +12,7 @@ use Rattle.cartridge.specs.Header.{has_battery}
 use Rattle.battery_files.specs.Battery.{battery_of}
 use Rattle.battery_files.specs.declared.error.ExportError.{ExportError}
 use Rattle.battery_files.specs.declared.error.ExportError.TheVariants.{Cart, NoBattery, Session}
-use Rattle.battery_files.specs.declared.error.ExportRefused.{ExportRefused}
+use Rattle.sector_device.specs.declared.refused.Refused.{Refused}
 use Rattle.battery_files.specs.declared.exporting.Exported.{Exported}
 
 -- the image of the device stands for a machine after so many inputs, and the bytes are its battery file
@@ -42,6 +42,6 @@ faults_after_export NoBattery faults = faults
 faults_after_export (Session why) faults = faults_after why faults
 
 -- the device that a call leaves
-abbrev pub left_by : {D : Type 0} → Result (Exported D) (ExportRefused D) → D
+abbrev pub left_by : {D : Type 0} → Result (Exported D) (Refused ExportError D) → D
 left_by (Ok exported) = exported.device
 left_by (Err refused) = refused.device

@@ -1,7 +1,6 @@
 //! Why there is no battery file, or why one is not taken.
 
 use cartridge::CartError;
-use sector_device::SectorDevice;
 use session::SessionError;
 use thiserror::Error;
 
@@ -17,14 +16,6 @@ pub enum ExportError {
     /// The game could not be looked at, or memory was refused.
     #[error(transparent)]
     Session(SessionError),
-}
-
-/// A refusal that hands the device back.
-#[derive(Drop)]
-pub struct ExportRefused<D: SectorDevice> {
-    pub why: ExportError,
-    /// Nothing was written to it.
-    pub device: D,
 }
 
 /// Why a battery file was not taken.

@@ -9,9 +9,9 @@ ghost use Rattle.session.specs.Calls.{CanBeLookedAt};
 ghost use Rattle.battery_files.specs.Exporting.{IsExportCause, IsExported, IsUntouchedBy, faults_after_export, left_by};
 
 use crate::battery::battery_of;
-use crate::error::{ExportError, ExportRefused};
+use crate::error::ExportError;
 use cartridge::Cartridge;
-use sector_device::SectorDevice;
+use sector_device::{Refused, SectorDevice};
 use session::{SessionError, look_at};
 use std::alloc::Global;
 
@@ -33,7 +33,7 @@ pub fn export_battery<D: SectorDevice>(
     alloc: Global,
     device: D,
     rom: Vec<u8>,
-) -> Result<Exported<D>, ExportRefused<D>>
+) -> Result<Exported<D>, Refused<ExportError, D>>
     ensures accepted { OnOk result (IsAccepted rom.items) }
     ensures battery { OnOk result (has_battery rom.items ≡ true) }
     ensures exported { IfOk result (λ exported. (D.disk device).honest →
@@ -49,20 +49,20 @@ pub fn export_battery<D: SectorDevice>(
 {
     let cartridge = match Cartridge::read(rom) {
         Ok(cartridge) => cartridge,
-        Err(fault) => return Err(ExportRefused {
+        Err(fault) => return Err(Refused {
             why: ExportError::Cart(fault),
             device,
         }),
     };
     if !cartridge.has_battery() {
-        return Err(ExportRefused {
+        return Err(Refused {
             why: ExportError::NoBattery,
             device,
         });
     }
     let look = match look_at(alloc, device, &cartridge) {
         Ok(look) => look,
-        Err(refused) => return Err(ExportRefused {
+        Err(refused) => return Err(Refused {
             why: ExportError::Session(refused.why),
             device: refused.device,
         }),
@@ -74,7 +74,7 @@ pub fn export_battery<D: SectorDevice>(
             bytes,
             device: look.into_device(),
         }),
-        Err(_) => Err(ExportRefused {
+        Err(_) => Err(Refused {
             why: ExportError::Session(SessionError::Memory),
             device: look.into_device(),
         }),

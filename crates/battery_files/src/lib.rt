@@ -10,7 +10,7 @@ mod importing;
 mod laws;
 
 pub use battery::{battery_length, battery_of, has_clock};
-pub use error::{ExportError, ExportRefused, ImportError};
+pub use error::{ExportError, ImportError};
 pub use exporting::{Exported, export_battery};
 pub use importing::machine_with_battery;
 pub use laws::{

@@ -7,9 +7,9 @@ use Rattle.replaying.specs.declared.error.VerifyError.TheVariants.{Behind as Rec
 use Rattle.gbkeep.specs.declared.words.Asked.TheVariants.{Command}
 use Rattle.gbkeep.specs.declared.fault.Fault.{Fault}
 use Rattle.gbkeep.specs.declared.fault.Fault.TheVariants.{Cart, Memory, File, Output, Address, Word, Device, Script, Session, Line, Input, Snapshot, Recording, Behind, Ahead, Differ, RecordedGame, TestFailed, TestUndecided, NoBattery, BatteryLength}
-use Rattle.gbkeep.specs.Text.{Exchange, Text, IsUnread, IsUnwritten}
+use Rattle.commands.specs.Text.{Text, IsUnread, IsUnwritten}
 use Rattle.gbkeep.specs.Request.{GivesInputs, HasAddress, HasDevice, HasScript, IsCompared, IsGameRefused, IsRecordingRefused, IsTestDecided, IsWithoutBattery, IsOtherLength}
-use Rattle.gbkeep.specs.Program.{HasEnded, HasLine, IsDebugRefused, IsRecordRefused, IsRefused, IsRefusedReading, IsStreamRefused, IsTrueOf, line_of, status_of}
+use Rattle.gbkeep.specs.Program.{Exchange, HasEnded, HasLine, IsDebugRefused, IsRecordRefused, IsRefused, IsRefusedReading, IsStreamRefused, IsTrueOf, line_of, status_of}
 
 -- what never holds of a listing holds only of requests without an address
 elsewhere : (P : Request → Type 0) → ((cart address : Bor (List ℕ)) (count : ℕ) → P (Listing cart address count) → ⊥) → (request : Request) → P request → HasAddress request

@@ -11,55 +11,22 @@ use Rattle.session.specs.Stands.{IsAtRest}
 use Rattle.recording.specs.Calls.{IsBlank, IsCreateCause}
 use Rattle.recording.specs.declared.fault.RecordingFault.{RecordingFault}
 use Rattle.recording.specs.declared.fault.RecordingFault.TheVariants.{Memory, Device, TooSmall, NotBlank, NoRecording, OtherCartridge, Full, Broken}
-use Rattle.recording_lines.specs.Beginning.{IsNewRecording}
-use Rattle.recording_lines.specs.Script.{IsScriptCause}
-use Rattle.recording_lines.specs.Verifying.{IsLineCause}
-use Rattle.recording_lines.specs.declared.error.ScriptLinesError.{ScriptLinesError}
-use Rattle.recording_lines.specs.declared.error.ScriptLinesError.TheVariants.{Cart as ScriptCart, Recording as ScriptRecording, Output as ScriptOutput}
-use Rattle.recording_lines.specs.declared.error.VerifyLineError.{VerifyLineError}
-use Rattle.recording_lines.specs.declared.error.VerifyLineError.TheVariants.{Cart as VerifyCart, Verify as Compared, Output as VerifyOutput}
-use Rattle.replaying.specs.declared.error.VerifyError.TheVariants.{Save, Recording, Behind, Ahead, Memory as Lacked, Differ}
-use Rattle.save_lines.specs.Shown.{IsShowCause}
-use Rattle.save_lines.specs.declared.error.ShowError.{ShowError}
-use Rattle.save_lines.specs.declared.error.ShowError.TheVariants.{Cart as ShowCart, Session as ShowSession, Output as ShowOutput}
+use Rattle.gbkeep.specs.NewFiles.{IsNewRecording}
 use Rattle.battery_files.specs.Exporting.{IsExportCause}
 use Rattle.battery_files.specs.declared.error.ExportError.{ExportError}
 use Rattle.battery_files.specs.declared.error.ExportError.TheVariants.{Cart as ExportCart, NoBattery, Session as ExportSession}
 use Rattle.battery_files.specs.Importing.{start_with}
-use Rattle.command_line.specs.declared.Request.TheVariants.{Show, Export, Import, Recorded, Verify}
+use Rattle.command_line.specs.declared.Request.TheVariants.{Export, Import}
 use Rattle.gbkeep.specs.Request.{HasBegun, IsEnough, IsGameBegun, IsImported, IsNewRecordingCause, IsRecordingBegun, OfAFile, sectors_for}
-use Rattle.gbkeep.specs.Program.{IsRefused, fault_of_export, fault_of_script, fault_of_show, fault_of_verifying}
+use Rattle.gbkeep.specs.Program.{IsRefused, fault_of_export}
 
 -- ---- a refusal
-
-pub show_refused : (cart save : Bor (List ℕ)) (rom : List ℕ) (file : FileDevice) (old new : Option (List ℕ)) (why : ShowError)
-    → IsShowCause rom (file_disk file) old new why → IsRefused (Show cart save) (fault_of_show why) old new
-show_refused cart save rom file old new (ShowCart fault) cause = (tt, cause.1, (rom, cause.0))
-show_refused cart save rom file old new (ShowSession why) cause = (rom, (file, cause))
-show_refused cart save rom file old new ShowOutput cause = (tt, (rom, (file, cause)))
 
 pub export_refused : (cart save out : Bor (List ℕ)) (rom : List ℕ) (file : FileDevice) (old new : Option (List ℕ)) → Keeps old new → (why : ExportError)
     → IsExportCause rom (file_disk file) why → IsRefused (Export cart save out) (fault_of_export why) old new
 export_refused cart save out rom file old new keeps (ExportCart fault) cause = (tt, keeps, (rom, cause))
 export_refused cart save out rom file old new keeps NoBattery cause = (keeps, (rom, cause.0, cause.1))
 export_refused cart save out rom file old new keeps (ExportSession why) cause = (keeps, (rom, (file, cause)))
-
-pub recorded_refused : (cart recording : Bor (List ℕ)) (rom : List ℕ) (file : FileDevice) (old new : Option (List ℕ)) (why : ScriptLinesError)
-    → IsScriptCause rom (file_disk file) old new why → IsRefused (Recorded cart recording) (fault_of_script why) old new
-recorded_refused cart recording rom file old new (ScriptCart fault) cause = (tt, cause.1, (rom, cause.0))
-recorded_refused cart recording rom file old new (ScriptRecording why) cause = (rom, (file, cause))
-recorded_refused cart recording rom file old new ScriptOutput cause = (tt, (rom, (file, cause)))
-
-pub verify_refused : (cart save recording : Bor (List ℕ)) (rom : List ℕ) (game tape : FileDevice) (old new : Option (List ℕ)) (why : VerifyLineError)
-    → IsLineCause rom (file_disk game) (file_disk tape) old new why → IsRefused (Verify cart save recording) (fault_of_verifying why) old new
-verify_refused cart save recording rom game tape old new (VerifyCart fault) cause = (tt, cause.1, (rom, cause.0))
-verify_refused cart save recording rom game tape old new (Compared (Save why)) cause = (rom, (game, tape, cause))
-verify_refused cart save recording rom game tape old new (Compared (Recording why)) cause = (rom, (game, tape, cause))
-verify_refused cart save recording rom game tape old new (Compared (Behind count)) cause = (rom, (game, tape, cause))
-verify_refused cart save recording rom game tape old new (Compared (Ahead count)) cause = absurd cause.2
-verify_refused cart save recording rom game tape old new (Compared Lacked) cause = (tt, cause.1)
-verify_refused cart save recording rom game tape old new (Compared Differ) cause = (rom, (game, tape, cause))
-verify_refused cart save recording rom game tape old new VerifyOutput cause = (tt, (rom, (game, tape, cause)))
 
 -- ---- what is begun in a file that was made of so many zero sectors
 

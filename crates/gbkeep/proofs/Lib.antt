@@ -1,7 +1,5 @@
 pub mod Addresses
-pub mod HeaderLines
-pub mod Plays
-pub mod Traces
+pub mod CommandTexts
 pub mod StreamTexts
 pub mod RecordTexts
 pub mod BatteryTexts
@@ -9,5 +7,6 @@ pub mod DebugTexts
 pub mod Endings
 pub mod BegunTexts
 pub mod FileTexts
+pub mod Together
 pub mod LoopSteps
 pub mod Serving

@@ -7,7 +7,7 @@ use Rattle.sector_device.specs.declared.file.FileDevice.{FileDevice}
 use Rattle.replaying.specs.Verifying.{IsOfVerifying, IsVerifyCause}
 use Rattle.replaying.specs.declared.error.VerifyError.{VerifyError}
 use Rattle.replaying.specs.declared.error.VerifyError.TheVariants.{Save, Recording as Taped, Behind as IsBehind, Ahead as IsAhead, Memory as Lacked, Differ as Differing}
-use Rattle.recording_lines.specs.declared.error.VerifyLineError.TheVariants.{Verify as Compared}
+use Rattle.commands.specs.declared.error.CommandError.TheVariants.{Verify}
 use Rattle.streaming.specs.declared.obeying.End.{End}
 use Rattle.recorded_play.specs.Whole.{HasRecorded, IsRecordCause}
 use Rattle.recorded_play.specs.declared.error.RecordError.{RecordError}
@@ -15,7 +15,7 @@ use Rattle.recorded_play.specs.declared.error.RecordError.TheVariants.{Session, 
 use Rattle.playing.proofs.Telling.{keeps_same}
 use Rattle.gbkeep.specs.declared.fault.Fault.{Fault}
 use Rattle.gbkeep.specs.declared.fault.Fault.TheVariants.{Cart as ACart, Memory as AMemory, File as AFile, Output as AnOutput, Address as AnAddress, Word as AWord, Device as ADevice, Script as AScript, Session as ASession, Line as ALine, Input as AnInput, Snapshot as ASnapshot, Recording as ARecording, Behind as ABehind, Ahead as AnAhead, Differ as ADiffer, RecordedGame as ARecordedGame, TestFailed as ATestFailed, TestUndecided as ATestUndecided, NoBattery as NoBatteryThere, BatteryLength as ABatteryLength}
-use Rattle.gbkeep.specs.Program.{IsNotOf, IsRecordRefused, fault_of_record, fault_of_verifying}
+use Rattle.gbkeep.specs.Program.{IsNotOf, IsRecordRefused, fault_of_record, fault_of_command}
 use Rattle.gbkeep.specs.Request.{IsNotBelonging, IsRecordedTo, record_limits}
 
 module _ (rom : List ℕ) (accepted : IsAccepted rom) (save now_save recording now_recording : FileDevice) (before_in since_in before since : Option (List ℕ)) where
@@ -37,7 +37,7 @@ module _ (rom : List ℕ) (accepted : IsAccepted rom) (save now_save recording n
 
 -- why a recording is not taken for that of a game
 pub not_of : (rom : List ℕ) (game tape : DiskState) (why : VerifyError)
-    → (game.honest → tape.honest → IsVerifyCause (Some record_limits) rom game tape why) → IsOfVerifying (Some record_limits) why → IsNotOf rom game tape (fault_of_verifying (Compared why))
+    → (game.honest → tape.honest → IsVerifyCause (Some record_limits) rom game tape why) → IsOfVerifying (Some record_limits) why → IsNotOf rom game tape (fault_of_command (Verify why))
 not_of rom game tape (Save why) cause kind = (cause, kind)
 not_of rom game tape (Taped why) cause kind = cause
 not_of rom game tape (IsBehind count) cause kind = cause

@@ -1,9 +1,4 @@
-pub mod Text
-pub mod Info
-pub mod StepLine
 pub mod Beginning
-pub mod Playing
-pub mod Tracing
+pub mod NewFiles
 pub mod Request
 pub mod Program
-pub mod Streaming

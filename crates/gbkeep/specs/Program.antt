@@ -18,12 +18,8 @@ use Rattle.sector_device.specs.declared.device.DeviceFault.TheVariants.{Device a
 use Rattle.recording.specs.declared.fault.RecordingFault.TheVariants.{Memory as TapeMemory, Device as TapeDevice, TooSmall as TapeTooSmall, NotBlank as TapeNotBlank, NoRecording as TapeNoRecording, OtherCartridge as TapeOtherCartridge, Full as TapeFull, Broken as TapeBroken}
 use Rattle.gbkeep.specs.declared.words.Asked.{Asked}
 use Rattle.gbkeep.specs.declared.words.Asked.TheVariants.{Command, Help, Misuse, OutOfRange}
-use Rattle.gbkeep.specs.declared.error.TextError.{TextError}
-use Rattle.gbkeep.specs.declared.error.TextError.TheVariants.{Cart as TextCart, Memory as TextMemory, Output as TextOutput}
-use Rattle.gbkeep.specs.declared.error.PlayError.{PlayError}
-use Rattle.gbkeep.specs.declared.error.PlayError.TheVariants.{Cart as PlayCart, Script as PlayScript, Session as PlaySession, Picture as PlayPicture}
-use Rattle.gbkeep.specs.declared.error.TraceError.{TraceError}
-use Rattle.gbkeep.specs.declared.error.TraceError.TheVariants.{Cart as TraceCart, Session as TraceSession, Memory as TraceMemory, Output as TraceOutput}
+use Rattle.commands.specs.declared.error.CommandError.{CommandError}
+use Rattle.commands.specs.declared.error.CommandError.TheVariants.{Cart as NoCartridge, Script as WrongScript, Session as NoGame, Stream as StreamEnded, Recording as NoTape, Verify as NotVerified, Debug as DebugEnded, Memory as CommandMemory, Output as CommandOutput}
 use Rattle.gbkeep.specs.declared.fault.Fault.{Fault}
 use Rattle.test_run.specs.declared.error.TestError.{TestError}
 use Rattle.test_run.specs.declared.error.TestError.TheVariants.{Cart as TestCart, Script as TestScript, Memory as TestMemory, Output as TestOutput}
@@ -31,31 +27,19 @@ use Rattle.test_run.specs.declared.verdict.Verdict.TheVariants.{Passed, Failed, 
 use Rattle.test_run.specs.Refusals.{IsTested, IsTestRefused}
 use Rattle.recorded_play.specs.declared.error.RecordError.{RecordError}
 use Rattle.recorded_play.specs.declared.error.RecordError.TheVariants.{Session as RecordSession, Recording as RecordRecording, Behind as RecordBehind, Line as RecordLine, Input as RecordInput}
-use Rattle.recording_lines.specs.declared.error.ScriptLinesError.{ScriptLinesError}
-use Rattle.recording_lines.specs.declared.error.ScriptLinesError.TheVariants.{Cart as ScriptCart, Recording as ScriptRecording, Output as ScriptOutput}
-use Rattle.recording_lines.specs.declared.error.VerifyLineError.{VerifyLineError}
-use Rattle.recording_lines.specs.declared.error.VerifyLineError.TheVariants.{Cart as VerifyCart, Verify as Verified, Output as VerifyOutput}
-use Rattle.save_lines.specs.declared.error.ShowError.{ShowError}
-use Rattle.save_lines.specs.declared.error.ShowError.TheVariants.{Cart as ShowCart, Session as ShowSession, Output as ShowOutput}
 use Rattle.battery_files.specs.declared.error.ExportError.{ExportError}
 use Rattle.battery_files.specs.declared.error.ExportError.TheVariants.{Cart as ExportCart, NoBattery as ExportNoBattery, Session as ExportSession}
 use Rattle.battery_files.specs.declared.error.ImportError.{ImportError}
 use Rattle.battery_files.specs.declared.error.ImportError.TheVariants.{NoBattery as ImportNoBattery, Length as ImportLength, Memory as ImportMemory}
 use Rattle.debugging.specs.declared.error.DebugError.TheVariants.{Input as DebugInput, Output as DebugOutput, Memory as DebugMemory}
-use Rattle.debug_lines.specs.declared.error.DebugRomError.{DebugRomError}
-use Rattle.debug_lines.specs.declared.error.DebugRomError.TheVariants.{Cart as DebugRomCart, Memory as DebugRomMemory, Debug as DebugRomStopped}
-use Rattle.debug_lines.specs.declared.error.DebugGameError.{DebugGameError}
-use Rattle.debug_lines.specs.declared.error.DebugGameError.TheVariants.{Cart as DebugGameCart, Session as DebugGameSession, Memory as DebugGameMemory, Debug as DebugGameStopped}
 use Rattle.sector_device.specs.DiskState.{DiskState}
 use Rattle.replaying.specs.Verifying.{IsVerifyCause}
 use Rattle.replaying.specs.declared.error.VerifyError.TheVariants.{Save as NoSave, Recording as NoRecording, Behind as RecordingBehind, Ahead as RecordingAhead, Memory as NoMemory, Differ as MachinesDiffer}
-use Rattle.gbkeep.specs.declared.error.StreamPlayError.{StreamPlayError}
-use Rattle.gbkeep.specs.declared.error.StreamPlayError.TheVariants.{Cart as StreamCart, Stream as StreamFault}
 use Rattle.streaming.specs.declared.obeying.End.TheVariants.{Whole, Wrong as WrongLine, Failed as FailedRead, Damaged as DamagedBytes, NoMemory as LackedMemory}
 use Rattle.streaming.specs.declared.error.StreamError.TheVariants.{Session as StreamSession, Line as StreamLine, Input as StreamInput, Snapshot as StreamSnapshot, Memory as StreamMemory}
 use Rattle.gbkeep.specs.declared.fault.Fault.TheVariants.{Cart, Memory, File, Output, Address, Word, Device, Script, Session, Line, Input, Snapshot, Recording, Behind, Ahead, Differ, RecordedGame, TestFailed, TestUndecided, NoBattery, BatteryLength}
 use Rattle.script.specs.Script.{IsRefused as IsScriptRefused}
-use Rattle.gbkeep.specs.Text.{Exchange, Text, IsUnread, IsUnwritten}
+use Rattle.commands.specs.Text.{Text, IsUnread, IsUnwritten}
 use Rattle.gbkeep.specs.Request.{HasAddress, HasDevice, HasScript, IsDone, IsCompared, GivesInputs, IsGameRefused, IsMemoryRefused, IsOutputRefused, IsRecordingRefused, IsTestDecided, IsWithoutBattery, IsOtherLength, IsScriptOf, makes_battery_name, IsStreamStopped, IsStreamedTo, IsNotBelonging, IsRecordStopped, IsRecordedTo, record_limits, IsDebugged, IsDebugStopped, IsDebugUnbegun, IsDebugNotTakenUp}
 
 abbrev pub status_of : Fault → ℕ
@@ -81,34 +65,28 @@ status_of TestUndecided = 1
 status_of NoBattery = 1
 status_of (BatteryLength found needed) = 1
 
--- what a text that was refused is for the program
-abbrev pub fault_of_text : TextError → Fault
-fault_of_text (TextCart fault) = Cart fault
-fault_of_text TextMemory = Memory
-fault_of_text TextOutput = Output
-
--- and what a play that was refused is
-abbrev pub fault_of_play : PlayError → Fault
-fault_of_play (PlayCart fault) = Cart fault
-fault_of_play (PlayScript fault) = Script fault
-fault_of_play (PlaySession fault) = Session fault
-fault_of_play PlayPicture = Output
-
--- and what a trace that was refused is
-abbrev pub fault_of_trace : TraceError → Fault
-fault_of_trace (TraceCart fault) = Cart fault
-fault_of_trace (TraceSession fault) = Session fault
-fault_of_trace TraceMemory = Memory
-fault_of_trace TraceOutput = Output
-
--- and what a stream that was refused is
-abbrev pub fault_of_stream : StreamPlayError → Fault
-fault_of_stream (StreamCart fault) = Cart fault
-fault_of_stream (StreamFault (StreamSession fault)) = Session fault
-fault_of_stream (StreamFault (StreamLine number)) = Line number
-fault_of_stream (StreamFault StreamInput) = Input
-fault_of_stream (StreamFault StreamSnapshot) = Snapshot
-fault_of_stream (StreamFault StreamMemory) = Memory
+-- what a command that was refused is for the program
+abbrev pub fault_of_command : CommandError → Fault
+fault_of_command (NoCartridge fault) = Cart fault
+fault_of_command (WrongScript fault) = Script fault
+fault_of_command (NoGame fault) = Session fault
+fault_of_command (StreamEnded (StreamSession fault)) = Session fault
+fault_of_command (StreamEnded (StreamLine number)) = Line number
+fault_of_command (StreamEnded StreamInput) = Input
+fault_of_command (StreamEnded StreamSnapshot) = Snapshot
+fault_of_command (StreamEnded StreamMemory) = Memory
+fault_of_command (NoTape fault) = Recording fault
+fault_of_command (NotVerified (NoSave fault)) = Session fault
+fault_of_command (NotVerified (NoRecording fault)) = Recording fault
+fault_of_command (NotVerified (RecordingBehind count)) = Behind count
+fault_of_command (NotVerified (RecordingAhead count)) = Ahead count
+fault_of_command (NotVerified NoMemory) = Memory
+fault_of_command (NotVerified MachinesDiffer) = Differ
+fault_of_command (DebugEnded DebugInput) = Input
+fault_of_command (DebugEnded DebugOutput) = Output
+fault_of_command (DebugEnded DebugMemory) = Memory
+fault_of_command CommandMemory = Memory
+fault_of_command CommandOutput = Output
 
 -- and what a recorded play that was refused is
 abbrev pub fault_of_record : RecordError → Fault
@@ -118,35 +96,12 @@ fault_of_record (RecordBehind count) = Behind count
 fault_of_record (RecordLine number) = Line number
 fault_of_record RecordInput = Input
 
--- what a recording that is not written, or not all of it, is
-abbrev pub fault_of_script : ScriptLinesError → Fault
-fault_of_script (ScriptCart fault) = Cart fault
-fault_of_script (ScriptRecording fault) = Recording fault
-fault_of_script ScriptOutput = Output
-
--- and what a game that does not agree with its recording, or is not compared, is
-abbrev pub fault_of_verifying : VerifyLineError → Fault
-fault_of_verifying (VerifyCart fault) = Cart fault
-fault_of_verifying (Verified (NoSave fault)) = Session fault
-fault_of_verifying (Verified (NoRecording fault)) = Recording fault
-fault_of_verifying (Verified (RecordingBehind count)) = Behind count
-fault_of_verifying (Verified (RecordingAhead count)) = Ahead count
-fault_of_verifying (Verified NoMemory) = Memory
-fault_of_verifying (Verified MachinesDiffer) = Differ
-fault_of_verifying VerifyOutput = Output
-
 -- and what a test that was not run to its end is
 abbrev pub fault_of_test : TestError → Fault
 fault_of_test (TestCart fault) = Cart fault
 fault_of_test (TestScript fault) = Script fault
 fault_of_test TestMemory = Memory
 fault_of_test TestOutput = Output
-
--- what a game that is not shown is
-abbrev pub fault_of_show : ShowError → Fault
-fault_of_show (ShowCart fault) = Cart fault
-fault_of_show (ShowSession fault) = Session fault
-fault_of_show ShowOutput = Output
 
 -- and what a battery file that is not written is, or not taken
 abbrev pub fault_of_export : ExportError → Fault
@@ -160,21 +115,6 @@ fault_of_import (ImportLength found needed) = BatteryLength found needed
 fault_of_import ImportMemory = Memory
 
 -- and what a debugger that was not begun, or stopped, is
-abbrev pub fault_of_debug_rom : DebugRomError → Fault
-fault_of_debug_rom (DebugRomCart fault) = Cart fault
-fault_of_debug_rom DebugRomMemory = Memory
-fault_of_debug_rom (DebugRomStopped DebugInput) = Input
-fault_of_debug_rom (DebugRomStopped DebugOutput) = Output
-fault_of_debug_rom (DebugRomStopped DebugMemory) = Memory
-
-abbrev pub fault_of_debug_game : DebugGameError → Fault
-fault_of_debug_game (DebugGameCart fault) = Cart fault
-fault_of_debug_game (DebugGameSession fault) = Session fault
-fault_of_debug_game DebugGameMemory = Memory
-fault_of_debug_game (DebugGameStopped DebugInput) = Input
-fault_of_debug_game (DebugGameStopped DebugOutput) = Output
-fault_of_debug_game (DebugGameStopped DebugMemory) = Memory
-
 -- a test of this ROM with this script was done, or it was refused
 abbrev pub IsTestServed : (rom text : List ℕ) → (frames : ℕ) → Result Unit Fault → Option (List ℕ) → Option (List ℕ) → Type 0
 IsTestServed rom text frames (Ok u) old new = IsTested rom text frames old new Passed
@@ -251,6 +191,15 @@ line_of TestFailed = Some (codes "gbkeep: test failed\n")
 line_of TestUndecided = Some (codes "gbkeep: test undecided\n")
 line_of NoBattery = Some (codes "gbkeep: no battery\n")
 line_of (BatteryLength found needed) = None
+
+-- what the program reads and writes
+pub record Exchange : Type 0 where
+  pub input : Text
+  pub output : Text
+  pub errors : Text
+  -- whether a read of the input, and a write to the output, has failed by the end
+  pub input_failed : Bool
+  pub output_failed : Bool
 
 -- the line went out, or a proper prefix of it; nothing is said of a line that is not given
 abbrev pub HasLine : Option (List ℕ) → Option (List ℕ) → Option (List ℕ) → Type 0

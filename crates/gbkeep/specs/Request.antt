@@ -8,6 +8,7 @@ use Rattle.exact_text.specs.Written.{AppendsProperPrefix}
 use Rattle.cartridge.specs.Accepted.{IsAccepted}
 use Rattle.cartridge.specs.Header.{has_battery, ram_length_of}
 use Rattle.command_line.specs.declared.Request.{Request}
+use Rattle.commands.specs.declared.error.CommandError.TheVariants.{Session as NoGame, Stream as StreamEnded, Recording as NoTape, Verify as NotVerified, Debug as DebugEnded, Output as Unwritten}
 use Rattle.command_line.specs.declared.Request.TheVariants.{Info, List as Listing, Step, New, Play, Frame, Trace, Stream, NewRecording, Record, Recorded, Verify, Test, Show, Export, Import, Debug}
 use Rattle.machine.specs.Machine.{MachineState, start}
 use Rattle.snapshot.specs.Encoding.{snapshot_length}
@@ -23,11 +24,9 @@ use Rattle.replaying.specs.Verifying.{IsVerifyCause}
 use Rattle.replaying.specs.declared.verifying.Limits.{Limits}
 use Rattle.replaying.specs.declared.error.VerifyError.{VerifyError}
 use Rattle.replaying.specs.declared.error.VerifyError.TheVariants.{Save as NoSave, Recording as NoRecording}
-use Rattle.recording_lines.specs.Beginning.{IsNewRecording}
-use Rattle.recording_lines.specs.Script.{HasWrittenScript, IsScriptCause}
-use Rattle.recording_lines.specs.Verifying.{HasAgreed, IsLineCause}
-use Rattle.recording_lines.specs.declared.error.ScriptLinesError.TheVariants.{Recording as ScriptRecording, Output as ScriptOutput}
-use Rattle.recording_lines.specs.declared.error.VerifyLineError.TheVariants.{Verify as Compared, Output as VerifyOutput}
+use Rattle.gbkeep.specs.NewFiles.{IsNewRecording}
+use Rattle.commands.specs.Recorded.{HasWrittenScript, IsScriptCause}
+use Rattle.commands.specs.Verify.{HasAgreed, IsLineCause}
 use Rattle.session.specs.Stands.{IsAtRest}
 use Rattle.session.specs.declared.error.SessionError.{SessionError}
 use Rattle.session.specs.Found.{IsNewGameCause}
@@ -38,26 +37,21 @@ use Rattle.debugger.specs.Listing.{lines_from}
 use Rattle.test_run.specs.Refusals.{IsTested, IsCutOff, IsSwitchedOff}
 use Rattle.test_run.specs.declared.verdict.Verdict.{Verdict}
 use Rattle.test_run.specs.declared.verdict.Verdict.TheVariants.{Passed}
-use Rattle.save_lines.specs.Shown.{HasShown, IsShowCause}
-use Rattle.save_lines.specs.declared.error.ShowError.TheVariants.{Session as ShowSession, Output as ShowOutput}
+use Rattle.commands.specs.Show.{HasShown, IsShowCause}
 use Rattle.battery_files.specs.Exporting.{IsExportCause, IsExported}
 use Rattle.battery_files.specs.declared.error.ExportError.TheVariants.{Session as ExportSession}
 use Rattle.battery_files.specs.Importing.{is_taken_length, start_with}
 use Rattle.gbkeep.specs.Beginning.{begun_line}
-use Rattle.gbkeep.specs.Info.{info_of}
-use Rattle.gbkeep.specs.Playing.{IsPlayCause, IsPlayedWhole}
-use Rattle.gbkeep.specs.declared.error.PlayError.TheVariants.{Session as PlaySession, Picture as PlayPicture}
-use Rattle.gbkeep.specs.StepLine.{line_after}
-use Rattle.gbkeep.specs.Streaming.{IsStreamPlayCause}
-use Rattle.gbkeep.specs.declared.error.StreamPlayError.TheVariants.{Stream as StreamFault}
-use Rattle.gbkeep.specs.Text.{Text, IsUnread, IsUnwritten, call_on}
-use Rattle.gbkeep.specs.Tracing.{HasTraced, IsTraceCause}
-use Rattle.gbkeep.specs.declared.error.TraceError.TheVariants.{Session as TraceSession, Output as TraceOutput}
+use Rattle.commands.specs.Info.{info_of}
+use Rattle.commands.specs.Play.{IsPlayCause, IsPlayedWhole}
+use Rattle.commands.specs.Step.{line_after}
+use Rattle.commands.specs.Stream.{IsStreamPlayCause}
+use Rattle.commands.specs.Text.{Text, IsUnread, IsUnwritten, call_on}
+use Rattle.commands.specs.Trace.{HasTraced, IsTraceCause}
 use Rattle.debugging.specs.Run.{begun}
 use Rattle.debugging.specs.Debugged.{Exchange as Exchanged, HasAnsweredAll, IsDebugCause}
 use Rattle.debugging.specs.declared.error.DebugError.{DebugError}
-use Rattle.debug_lines.specs.Debugging.{HasDebugged, IsDebugGameCause}
-use Rattle.debug_lines.specs.declared.error.DebugGameError.TheVariants.{Session as DebugGameSession, Debug as DebugGameStopped}
+use Rattle.commands.specs.Debug.{HasDebugged, IsDebugGameCause}
 
 -- how many sectors a new game's file has: as many as the words say, or else as many as a game of this ROM needs
 abbrev pub sectors_for : List ℕ → Option ℕ → ℕ
@@ -243,7 +237,7 @@ GivesInputs request = ⊥
 
 -- why a game and its recording don't agree, or are not compared; nothing went out
 abbrev pub IsCompared : Request → VerifyError → Option (List ℕ) → Option (List ℕ) → Type 0
-IsCompared (Verify cart save recording) why old new = (rom : List ℕ) × OfAPair (λ game tape. IsLineCause rom game tape old new (Compared why))
+IsCompared (Verify cart save recording) why old new = (rom : List ℕ) × OfAPair (λ game tape. IsLineCause rom game tape old new (NotVerified why))
 IsCompared request why old new = ⊥
 
 -- why no game is begun, taken up or looked at, and then nothing went out; or why a play ended, and then its report was cut short
@@ -251,12 +245,12 @@ abbrev pub IsGameRefused : Request → SessionError → Option (List ℕ) → Op
 IsGameRefused (New cart save sectors) why old new =
     Keeps old new × ((rom : List ℕ) × IsAccepted rom × IsNewGameCause (snapshot_length (ram_length_of rom)) (sectors_for rom sectors) why)
 IsGameRefused (Play cart save script) why old new =
-    (rom text : List ℕ) × OfAFileSince (λ was now. IsPlayCause rom text (call_on was now old new) (PlaySession why))
-IsGameRefused (Frame cart save out) why old new = (rom : List ℕ) × OfAFileSince (λ was now. IsPlayCause rom [] (call_on was now old new) (PlaySession why))
+    (rom text : List ℕ) × OfAFileSince (λ was now. IsPlayCause rom text (call_on was now old new) (NoGame why))
+IsGameRefused (Frame cart save out) why old new = (rom : List ℕ) × OfAFileSince (λ was now. IsPlayCause rom [] (call_on was now old new) (NoGame why))
 IsGameRefused (Trace cart save count) why old new =
-    (rom : List ℕ) × OfAFileSince (λ was now. IsTraceCause rom count (call_on was now old new) (TraceSession why))
+    (rom : List ℕ) × OfAFileSince (λ was now. IsTraceCause rom count (call_on was now old new) (NoGame why))
 IsGameRefused (Verify cart save recording) why old new = IsCompared (Verify cart save recording) (NoSave why) old new
-IsGameRefused (Show cart save) why old new = (rom : List ℕ) × OfAFile (λ was. IsShowCause rom was old new (ShowSession why))
+IsGameRefused (Show cart save) why old new = (rom : List ℕ) × OfAFile (λ was. IsShowCause rom was old new (NoGame why))
 IsGameRefused (Export cart save out) why old new = Keeps old new × ((rom : List ℕ) × OfAFile (λ was. IsExportCause rom was (ExportSession why)))
 IsGameRefused (Import cart battery save sectors) why old new = Keeps old new
     × ((rom : List ℕ) × IsAccepted rom × IsBatteryTaken rom × IsNewGameCause (snapshot_length (ram_length_of rom)) (sectors_for rom sectors) why)
@@ -273,7 +267,7 @@ IsNewRecordingCause sectors why = ⊥
 abbrev pub IsRecordingRefused : Request → RecordingFault → Option (List ℕ) → Option (List ℕ) → Type 0
 IsRecordingRefused (NewRecording cart recording sectors) why old new =
     Keeps old new × ((rom : List ℕ) × IsAccepted rom) × IsNewRecordingCause sectors why
-IsRecordingRefused (Recorded cart recording) why old new = (rom : List ℕ) × OfAFile (λ was. IsScriptCause rom was old new (ScriptRecording why))
+IsRecordingRefused (Recorded cart recording) why old new = (rom : List ℕ) × OfAFile (λ was. IsScriptCause rom was old new (NoTape why))
 IsRecordingRefused (Verify cart save recording) why old new = IsCompared (Verify cart save recording) (NoRecording why) old new
 IsRecordingRefused request why old new = ⊥
 
@@ -303,15 +297,15 @@ IsOutputRefused (Listing cart address count) old new =
 IsOutputRefused (Step cart count) old new = (rom : List ℕ) × IsAccepted rom × AppendsProperPrefix old new (printed (Step cart count) rom)
 IsOutputRefused (New cart save sectors) old new =
     (rom : List ℕ) × IsAccepted rom × HasBegun (New cart save sectors) rom × AppendsProperPrefix old new begun_line
-IsOutputRefused (Frame cart save out) old new = (rom : List ℕ) × OfAFileSince (λ was now. IsPlayCause rom [] (call_on was now old new) PlayPicture)
+IsOutputRefused (Frame cart save out) old new = (rom : List ℕ) × OfAFileSince (λ was now. IsPlayCause rom [] (call_on was now old new) Unwritten)
 IsOutputRefused (Trace cart save count) old new =
-    (rom : List ℕ) × OfAFileSince (λ was now. IsTraceCause rom count (call_on was now old new) TraceOutput)
+    (rom : List ℕ) × OfAFileSince (λ was now. IsTraceCause rom count (call_on was now old new) Unwritten)
 IsOutputRefused (NewRecording cart recording sectors) old new =
     (rom : List ℕ) × IsAccepted rom × HasBegun (NewRecording cart recording sectors) rom × AppendsProperPrefix old new begun_line
 IsOutputRefused (Test cart frames script) old new = (rom text : List ℕ) × IsGiven script text × IsCutOff rom text frames old new
-IsOutputRefused (Recorded cart recording) old new = (rom : List ℕ) × OfAFile (λ was. IsScriptCause rom was old new ScriptOutput)
-IsOutputRefused (Verify cart save recording) old new = (rom : List ℕ) × OfAPair (λ game tape. IsLineCause rom game tape old new VerifyOutput)
-IsOutputRefused (Show cart save) old new = (rom : List ℕ) × OfAFile (λ was. IsShowCause rom was old new ShowOutput)
+IsOutputRefused (Recorded cart recording) old new = (rom : List ℕ) × OfAFile (λ was. IsScriptCause rom was old new Unwritten)
+IsOutputRefused (Verify cart save recording) old new = (rom : List ℕ) × OfAPair (λ game tape. IsLineCause rom game tape old new Unwritten)
+IsOutputRefused (Show cart save) old new = (rom : List ℕ) × OfAFile (λ was. IsShowCause rom was old new Unwritten)
 IsOutputRefused (Export cart save out) old new =
     (rom : List ℕ) × IsAccepted rom × (has_battery rom ≡ true) × OfAFile (λ was. HasExported rom was (AppendsProperPrefix old new))
 IsOutputRefused (Import cart battery save sectors) old new =
@@ -333,7 +327,7 @@ IsStreamedTo end input output = (rom : List ℕ) × IsAccepted rom
 -- why the game was not taken up, with nothing read and nothing written; or why a line was refused, with what was answered up to there
 abbrev pub IsStreamStopped : SessionError → (input output : Text) → Type 0
 IsStreamStopped why input output = (rom : List ℕ)
-    × OfAFileSince (λ was now. IsStreamPlayCause rom input (call_on was now output.before output.since) (StreamFault (StreamSession why)))
+    × OfAFileSince (λ was now. IsStreamPlayCause rom input (call_on was now output.before output.since) (StreamEnded (StreamSession why)))
 
 -- ---- a recorded play
 
@@ -370,7 +364,7 @@ IsDebugged (Some save) input output = (rom : List ℕ) × IsAccepted rom × OfAF
 abbrev pub IsDebugStopped : (save : Option (Bor (List ℕ))) → DebugError → (input output : Text) → Type 0
 IsDebugStopped None why input output = (rom : List ℕ) × IsAccepted rom × IsDebugCause why (begun (start rom)) (exchange_of input output)
 IsDebugStopped (Some save) why input output =
-    (rom : List ℕ) × OfAFileSince (λ was now. IsDebugGameCause rom was now (exchange_of input output) (DebugGameStopped why))
+    (rom : List ℕ) × OfAFileSince (λ was now. IsDebugGameCause rom was now (exchange_of input output) (DebugEnded why))
 
 -- a file that a game was to be debugged in was not opened: nothing was read, and nothing went out
 abbrev pub IsDebugUnbegun : (save : Option (Bor (List ℕ))) → (input output : Text) → Type 0
@@ -381,4 +375,4 @@ IsDebugUnbegun (Some save) input output = IsUnread input × IsUnwritten output
 abbrev pub IsDebugNotTakenUp : (save : Option (Bor (List ℕ))) → SessionError → (input output : Text) → Type 0
 IsDebugNotTakenUp None why input output = ⊥
 IsDebugNotTakenUp (Some save) why input output =
-    (rom : List ℕ) × OfAFileSince (λ was now. IsDebugGameCause rom was now (exchange_of input output) (DebugGameSession why))
+    (rom : List ℕ) × OfAFileSince (λ was now. IsDebugGameCause rom was now (exchange_of input output) (NoGame why))

@@ -5,7 +5,7 @@ ghost use Rattle.gbkeep.specs.Program.{IsDebugServed, IsOutputFault};
 
 use crate::fault::Fault;
 use crate::files::{MOST_ROM, file_bytes};
-use debug_lines::{debug_game, debug_rom};
+use commands::{debug_game, debug_rom};
 use exact_text::Output;
 use input_lines::LineInput;
 use sector_device::FileDevice;

@@ -2,20 +2,16 @@
 
 ghost use Rattle.std.specs.Prelude.{◌≡◌, Some};
 ghost use Rattle.gbkeep.specs.declared.fault.Fault.TheVariants.{Cart, Device};
-ghost use Rattle.gbkeep.specs.Program.{fault_of_show, fault_of_export, fault_of_import, fault_of_debug_rom, fault_of_debug_game};
-ghost use Rattle.gbkeep.specs.Program.{HasLine, fault_of_play, fault_of_record, fault_of_script, fault_of_stream, fault_of_test, fault_of_text, fault_of_trace, fault_of_verifying, line_of, status_of};
+ghost use Rattle.gbkeep.specs.Program.{HasLine, fault_of_command, fault_of_export, fault_of_import, fault_of_record, fault_of_test, line_of, status_of};
 
-use crate::error::{PlayError, StreamPlayError, TextError, TraceError};
 use battery_files::{ExportError, ImportError};
 use cartridge::CartError;
-use debug_lines::{DebugGameError, DebugRomError};
+use commands::CommandError;
 use debugging::DebugError;
 use exact_text::{Output, write_whole};
 use recorded_play::RecordError;
 use recording::RecordingFault;
-use recording_lines::{ScriptLinesError, VerifyLineError};
 use replaying::VerifyError;
-use save_lines::ShowError;
 use script::ScriptError;
 use sector_device::DeviceFault;
 use session::SessionError;
@@ -85,55 +81,31 @@ impl From<DeviceFault> for Fault {
     }
 }
 
-impl From<TextError> for Fault {
-    ghost from_gives = { λ why fault. fault ≡ fault_of_text why };
+impl From<CommandError> for Fault {
+    ghost from_gives = { λ why fault. fault ≡ fault_of_command why };
 
-    fn from(why: TextError) -> Fault {
+    fn from(why: CommandError) -> Fault {
         match why {
-            TextError::Cart(why) => Fault::Cart(why),
-            TextError::Memory => Fault::Memory,
-            TextError::Output => Fault::Output,
-        }
-    }
-}
-
-impl From<PlayError> for Fault {
-    ghost from_gives = { λ why fault. fault ≡ fault_of_play why };
-
-    fn from(why: PlayError) -> Fault {
-        match why {
-            PlayError::Cart(why) => Fault::Cart(why),
-            PlayError::Script(why) => Fault::Script(why),
-            PlayError::Session(why) => Fault::Session(why),
-            PlayError::Picture => Fault::Output,
-        }
-    }
-}
-
-impl From<TraceError> for Fault {
-    ghost from_gives = { λ why fault. fault ≡ fault_of_trace why };
-
-    fn from(why: TraceError) -> Fault {
-        match why {
-            TraceError::Cart(why) => Fault::Cart(why),
-            TraceError::Session(why) => Fault::Session(why),
-            TraceError::Memory => Fault::Memory,
-            TraceError::Output => Fault::Output,
-        }
-    }
-}
-
-impl From<StreamPlayError> for Fault {
-    ghost from_gives = { λ why fault. fault ≡ fault_of_stream why };
-
-    fn from(why: StreamPlayError) -> Fault {
-        match why {
-            StreamPlayError::Cart(why) => Fault::Cart(why),
-            StreamPlayError::Stream(StreamError::Session(why)) => Fault::Session(why),
-            StreamPlayError::Stream(StreamError::Line(number)) => Fault::Line(number),
-            StreamPlayError::Stream(StreamError::Input) => Fault::Input,
-            StreamPlayError::Stream(StreamError::Snapshot) => Fault::Snapshot,
-            StreamPlayError::Stream(StreamError::Memory) => Fault::Memory,
+            CommandError::Cart(why) => Fault::Cart(why),
+            CommandError::Script(why) => Fault::Script(why),
+            CommandError::Session(why) => Fault::Session(why),
+            CommandError::Stream(StreamError::Session(why)) => Fault::Session(why),
+            CommandError::Stream(StreamError::Line(number)) => Fault::Line(number),
+            CommandError::Stream(StreamError::Input) => Fault::Input,
+            CommandError::Stream(StreamError::Snapshot) => Fault::Snapshot,
+            CommandError::Stream(StreamError::Memory) => Fault::Memory,
+            CommandError::Recording(why) => Fault::Recording(why),
+            CommandError::Verify(VerifyError::Save(why)) => Fault::Session(why),
+            CommandError::Verify(VerifyError::Recording(why)) => Fault::Recording(why),
+            CommandError::Verify(VerifyError::Behind(count)) => Fault::Behind(count),
+            CommandError::Verify(VerifyError::Ahead(count)) => Fault::Ahead(count),
+            CommandError::Verify(VerifyError::Memory) => Fault::Memory,
+            CommandError::Verify(VerifyError::Differ) => Fault::Differ,
+            CommandError::Debug(DebugError::Input) => Fault::Input,
+            CommandError::Debug(DebugError::Output) => Fault::Output,
+            CommandError::Debug(DebugError::Memory) => Fault::Memory,
+            CommandError::Memory => Fault::Memory,
+            CommandError::Output => Fault::Output,
         }
     }
 }
@@ -152,35 +124,6 @@ impl From<RecordError> for Fault {
     }
 }
 
-impl From<ScriptLinesError> for Fault {
-    ghost from_gives = { λ why fault. fault ≡ fault_of_script why };
-
-    fn from(why: ScriptLinesError) -> Fault {
-        match why {
-            ScriptLinesError::Cart(why) => Fault::Cart(why),
-            ScriptLinesError::Recording(why) => Fault::Recording(why),
-            ScriptLinesError::Output => Fault::Output,
-        }
-    }
-}
-
-impl From<VerifyLineError> for Fault {
-    ghost from_gives = { λ why fault. fault ≡ fault_of_verifying why };
-
-    fn from(why: VerifyLineError) -> Fault {
-        match why {
-            VerifyLineError::Cart(why) => Fault::Cart(why),
-            VerifyLineError::Verify(VerifyError::Save(why)) => Fault::Session(why),
-            VerifyLineError::Verify(VerifyError::Recording(why)) => Fault::Recording(why),
-            VerifyLineError::Verify(VerifyError::Behind(count)) => Fault::Behind(count),
-            VerifyLineError::Verify(VerifyError::Ahead(count)) => Fault::Ahead(count),
-            VerifyLineError::Verify(VerifyError::Memory) => Fault::Memory,
-            VerifyLineError::Verify(VerifyError::Differ) => Fault::Differ,
-            VerifyLineError::Output => Fault::Output,
-        }
-    }
-}
-
 impl From<TestError> for Fault {
     ghost from_gives = { λ why fault. fault ≡ fault_of_test why };
 
@@ -190,18 +133,6 @@ impl From<TestError> for Fault {
             TestError::Script(why) => Fault::Script(why),
             TestError::Memory => Fault::Memory,
             TestError::Output => Fault::Output,
-        }
-    }
-}
-
-impl From<ShowError> for Fault {
-    ghost from_gives = { λ why fault. fault ≡ fault_of_show why };
-
-    fn from(why: ShowError) -> Fault {
-        match why {
-            ShowError::Cart(why) => Fault::Cart(why),
-            ShowError::Session(why) => Fault::Session(why),
-            ShowError::Output => Fault::Output,
         }
     }
 }
@@ -226,35 +157,6 @@ impl From<ImportError> for Fault {
             ImportError::NoBattery => Fault::NoBattery,
             ImportError::Length { found, needed } => Fault::BatteryLength { found, needed },
             ImportError::Memory => Fault::Memory,
-        }
-    }
-}
-
-impl From<DebugRomError> for Fault {
-    ghost from_gives = { λ why fault. fault ≡ fault_of_debug_rom why };
-
-    fn from(why: DebugRomError) -> Fault {
-        match why {
-            DebugRomError::Cart(why) => Fault::Cart(why),
-            DebugRomError::Memory => Fault::Memory,
-            DebugRomError::Debug(DebugError::Input) => Fault::Input,
-            DebugRomError::Debug(DebugError::Output) => Fault::Output,
-            DebugRomError::Debug(DebugError::Memory) => Fault::Memory,
-        }
-    }
-}
-
-impl From<DebugGameError> for Fault {
-    ghost from_gives = { λ why fault. fault ≡ fault_of_debug_game why };
-
-    fn from(why: DebugGameError) -> Fault {
-        match why {
-            DebugGameError::Cart(why) => Fault::Cart(why),
-            DebugGameError::Session(why) => Fault::Session(why),
-            DebugGameError::Memory => Fault::Memory,
-            DebugGameError::Debug(DebugError::Input) => Fault::Input,
-            DebugGameError::Debug(DebugError::Output) => Fault::Output,
-            DebugGameError::Debug(DebugError::Memory) => Fault::Memory,
         }
     }
 }

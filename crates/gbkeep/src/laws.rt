@@ -2,7 +2,7 @@
 
 ghost use Rattle.std.specs.Prelude.{List, ℕ};
 ghost use Rattle.replaying.specs.Agreeing.{AllAgree};
-ghost use Rattle.recording_lines.specs.Beginning.{IsNewGame, IsNewRecording};
+ghost use Rattle.gbkeep.specs.NewFiles.{IsNewGame, IsNewRecording};
 ghost use Rattle.test_run.specs.Laws.{NothingMoreHappens};
 
 use sector_device::SectorDevice;

@@ -11,11 +11,11 @@ use crate::making::{MakingDevice, new_device};
 use crate::marks::mark;
 use cartridge::Cartridge;
 use command_line::Request;
+use commands::{CommandError, recorded_lines, verify_line};
 use exact_text::Output;
 use input_lines::LineInput;
 use recorded_play::record as record_play;
 use recording::{RecordingFault, create_recording};
-use recording_lines::{VerifyLineError, recorded_lines, verify_line};
 use replaying::{Limits, verify as verify_within};
 use sector_device::{DeviceFault, FileDevice};
 use std::alloc::Global;
@@ -111,7 +111,7 @@ fn belonging(alloc: Global, pair: Pair, cartridge: &Cartridge) -> Result<Pair, F
             save: found.save,
             recording: found.recording,
         }),
-        Err(why) => Err(Fault::from(VerifyLineError::Verify(why))),
+        Err(why) => Err(Fault::from(CommandError::Verify(why))),
     }
 }
 

@@ -13,8 +13,8 @@ use crate::moves::play_on;
 use cartridge::Cartridge;
 use exact_text::Output;
 use script::Move;
-use sector_device::SectorDevice;
-use session::{Refused, Session, SessionError, resume};
+use sector_device::{Refused, SectorDevice};
+use session::{Session, SessionError, resume};
 use std::alloc::Global;
 
 /// Resumes the game on a device, writes `resumed N`, makes the moves, and writes `saved N` after
@@ -31,7 +31,7 @@ pub fn play<D: SectorDevice, W: Output>(
     cartridge: &Cartridge,
     moves: &[Move],
     report: &mut W,
-) -> Result<Session<D>, Refused<D>>
+) -> Result<Session<D>, Refused<SessionError, D>>
     // at Ok
     ensures played { IfOk result (λ s. (D.disk device).honest →
         HasPlayed cartridge.now (D.disk device) (D.disk (device_of s)) (inputs_of_moves moves.now)) }

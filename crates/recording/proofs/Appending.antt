@@ -18,7 +18,7 @@ use Rattle.recording.specs.Growing.{fits}
 use Rattle.recording.specs.Keeping.{EndsAt, BlankFrom, blanked, grown_image, HasPacked, Kept, IsStored}
 use Rattle.recording.specs.Recorded.{entries, recorded}
 use Rattle.recording.specs.Sizes.{list_sectors, list_sectors_in, sectors_for}
-use Rattle.input_entries.proofs.MoreInputs.{Whole, whole, codes-with_inputs}
+use Rattle.input_entries.proofs.MoreInputs.{whole, codes-with_inputs}
 use Rattle.recording.proofs.Images.{most_is, recorded_more, same_tail, holds_none, holds_all, holds_prefix, length-blanked, blanked_before, blanked_after, length-grown, grown_before, grown_after, grown_past, list_sector_in, length-list_sectors}
 use Rattle.recording.proofs.ListBytes.{chunk, entries_written, blank_has_none, nothing_has_none, few_inputs_of}
 

@@ -6,7 +6,7 @@ use Rattle.std.proofs.lemmas.Bool.Decides.{nat_tests}
 use lib.ListN.{replicate}
 use Rattle.sector_device.specs.DiskState.{DiskState, Settled, HasWritten, sector_at}
 use Rattle.sector_device.specs.Looking.{LooksOnly}
-use Rattle.sector_device.specs.Runs.{HoldsThroughout, Mixed, WrittenUpTo}
+use Rattle.sector_device.specs.Runs.{HoldsThroughout, Mixed}
 use Rattle.sector_device.proofs.Runs.{has_written, mixed_set, mixed_old, throughout_weaker}
 use Rattle.input_entries.specs.Bytes.{begins_with, zeros}
 use Rattle.input_entries.specs.Inputs.{inputs}

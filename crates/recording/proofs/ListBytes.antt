@@ -5,7 +5,7 @@ use Rattle.std.proofs.lemmas.Bool.{and_parts, cases_Bool}
 use Rattle.std.proofs.lemmas.Bool.Decides.{nat_tests}
 use Rattle.std.proofs.lemmas.Nat.{from_le_bytes-to_le_bytes_2, from_le_bytes-to_le_bytes_4}
 use Rattle.std.specs.List.{flat_map, list_all}
-use Rattle.std.specs.Int.{w16, w32, to_le_bytes, from_le_bytes}
+use Rattle.std.specs.Int.{w32, to_le_bytes, from_le_bytes}
 use lib.ListN.{replicate}
 use Rattle.input_entries.specs.Growing.{with_input}
 use Rattle.input_entries.specs.Inputs.{is_entry, is_input, is_run, run_length, inputs_in, inputs, all_entries}

@@ -1,5 +1,5 @@
 -- One turn of the loop that writes the sectors of an append.
-use Rattle.std.proofs.Common.{◌≡◌, ◌⊎◌, inl, inr, min, ℕ, ◌+◌, ◌-◌, ◌*◌, ◌<◌, ◌≤◌, List, [], ◌∷◌, ◌++◌, length, take, drop, refl, sym, ap, ◌∙◌, subst, arith, append_assoc, length-append, length-drop}
+use Rattle.std.proofs.Common.{◌≡◌, ◌⊎◌, inl, inr, min, ℕ, ◌+◌, ◌-◌, ◌*◌, ◌<◌, ◌≤◌, List, [], ◌++◌, length, take, drop, refl, sym, ap, ◌∙◌, subst, arith, append_assoc, length-append, length-drop}
 use Rattle.std.proofs.lemmas.List.{append-nil, length-take-le, take_at, drop_at, take_all, drop_all, get_or_past}
 use Rattle.std.proofs.lemmas.Bool.{cases_lt}
 use lib.Seq.{take-add}

@@ -3,7 +3,8 @@ use Rattle.std.specs.Prelude.{◌+◌, ℕ, List, length, Bool, Result, Ok, Err}
 use Rattle.sector_device.specs.declared.device.SectorDevice.{Ghosts}
 use Rattle.input_entries.specs.declared.StoredEntry.{StoredEntry}
 use Rattle.recording.specs.Sizes.{sectors_for}
-use Rattle.recording.specs.declared.fault.Refused.{Refused}
+use Rattle.recording.specs.declared.fault.RecordingFault.{RecordingFault}
+use Rattle.sector_device.specs.declared.refused.Refused.{Refused}
 use Rattle.recording.specs.declared.recording.Recording.{Recording}
 
 module _ {D : Type 0} {disk : Ghosts D} where
@@ -36,6 +37,6 @@ module _ {D : Type 0} {disk : Ghosts D} where
   page_of r = r.page.items
 
   -- the device that `create` and `open` leave
-  abbrev pub left_by_open : Result (Recording D disk) (Refused D) → D
+  abbrev pub left_by_open : Result (Recording D disk) (Refused RecordingFault D) → D
   left_by_open (Ok recording) = recording.device
   left_by_open (Err refused) = refused.device

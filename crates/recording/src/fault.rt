@@ -2,7 +2,7 @@
 ghost use Rattle.std.specs.Prelude.{◌≡◌};
 ghost use Rattle.recording.specs.declared.fault.RecordingFault.TheVariants.{Device};
 
-use sector_device::{DeviceFault, SectorDevice};
+use sector_device::DeviceFault;
 use thiserror::Error;
 
 /// Why a call of a recording was refused, with the text of each reason.
@@ -40,12 +40,4 @@ impl From<DeviceFault> for RecordingFault {
     fn from(_: DeviceFault) -> Self {
         RecordingFault::Device
     }
-}
-
-/// A refusal that hands the device back.
-#[derive(Drop)]
-pub struct Refused<D: SectorDevice> {
-    pub why: RecordingFault,
-    /// As the last call of it left it.
-    pub device: D,
 }

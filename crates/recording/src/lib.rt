@@ -13,6 +13,6 @@ mod recording;
 mod sizes;
 mod writes;
 
-pub use fault::{RecordingFault, Refused};
+pub use fault::RecordingFault;
 pub use opening::{create_recording, open_recording};
 pub use recording::Recording;

@@ -11,13 +11,13 @@ ghost use Rattle.recording.specs.Promises.{HasCreated, HasOpened};
 ghost use Rattle.recording.specs.Accessors.{device_of, left_by_open};
 ghost use Rattle.recording.specs.declared.fault.RecordingFault.TheVariants.{Memory, Device};
 
-use crate::fault::{RecordingFault, Refused};
+use crate::fault::RecordingFault;
 use crate::format::head_sector;
 use crate::reading::{End, check_head, is_blank, read_list};
 use crate::recording::Recording;
 use crate::sizes::ENTRIES_PER_SECTOR;
 use input_entries::StoredEntry;
-use sector_device::SectorDevice;
+use sector_device::{Refused, SectorDevice};
 use std::alloc::Global;
 
 /// Looks whether the device is blank, and writes the head.
@@ -53,7 +53,7 @@ pub fn create_recording<D: SectorDevice>(
     alloc: Global,
     device: D,
     id: [u8; 32],
-) -> Result<Recording<D>, Refused<D>>
+) -> Result<Recording<D>, Refused<RecordingFault, D>>
     ensures images { (D.disk device).honest →
         HoldsSince (D.disk device) (D.disk (left_by_open result)) (IsOldOrEmpty (D.disk device) id) }
     ensures created { IfOk result (λ recording.
@@ -123,7 +123,7 @@ pub fn open_recording<D: SectorDevice>(
     alloc: Global,
     device: D,
     id: [u8; 32],
-) -> Result<Recording<D>, Refused<D>>
+) -> Result<Recording<D>, Refused<RecordingFault, D>>
     ensures looked { (D.disk device).honest → HasLooked (D.disk device) (D.disk (left_by_open result)) }
     ensures opened { IfOk result (λ recording. HasOpened (D.disk device) (D.disk (device_of recording)) id recording) }
     ensures cause { IfErr result (λ refused. IsOpenCause refused.why id (D.disk device)) }

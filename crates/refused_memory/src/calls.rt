@@ -1,17 +1,16 @@
 //! The calls, each on a game of five inputs or on its cartridge. `None`: the memory before it was refused.
 use crate::answers::{Answer, refused};
 use cartridge::Cartridge;
-use debug_lines::{DebugGameError, DebugRomError, debug_game, debug_rom};
+use commands::{CommandError, debug_game, debug_rom, play_and_draw, step_line};
 use debugger::Debugger;
 use exact_text::CheckedOutput;
-use gbkeep::{PlayError, TextError, play_and_draw, step_line};
 use input_lines::CheckedInput;
 use machine::{Input, Machine, Region};
 use playing::play;
 use script::{Move, ScriptError, read_script};
-use sector_device::{MemoryDevice, SectorDevice};
+use sector_device::{MemoryDevice, Refused, SectorDevice};
 use sector_log::{LogFault, open_log};
-use session::{Refused, Session, SessionError, new_game, resume};
+use session::{Session, SessionError, new_game, resume};
 use snapshot::{SnapError, decode, encode, length};
 use std::alloc::Global;
 
@@ -188,7 +187,7 @@ pub(crate) fn opened(alloc: Global) -> Option<Answer> {
 /// The game stands on the device of a call that memory refused after so many calls at most.
 fn left_the_game(
     alloc: Global,
-    left: Refused<MemoryDevice>,
+    left: Refused<SessionError, MemoryDevice>,
     most: usize,
     cartridge: &Cartridge,
 ) -> Answer {
@@ -282,8 +281,8 @@ pub(crate) fn drawn(alloc: Global) -> Option<Answer> {
     ) {
         Ok(_) => return Some(Answer::Done),
         Err(left) => {
-            let is_memory = left.why == PlayError::Session(SessionError::Memory)
-                || left.why == PlayError::Script(ScriptError::Memory);
+            let is_memory = left.why == CommandError::Session(SessionError::Memory)
+                || left.why == CommandError::Script(ScriptError::Memory);
             refused(is_memory && holds_the_game(alloc, left.device, &cartridge))
         }
     };
@@ -301,7 +300,7 @@ pub(crate) fn stepped(alloc: Global) -> Option<Answer> {
         Ok(()) => return Some(Answer::Done),
         Err(why) => why,
     };
-    Some(refused(why == TextError::Memory && buffer == [0; 128]))
+    Some(refused(why == CommandError::Memory && buffer == [0; 128]))
 }
 
 /// A debugger that is refused has read nothing and answered nothing.
@@ -320,7 +319,7 @@ pub(crate) fn debugged_rom(alloc: Global) -> Option<Answer> {
         Err(why) => why,
     };
     let is_unread = input.len() == LINES.len();
-    Some(refused(why == DebugRomError::Memory && is_unread && buffer == [0; 512]))
+    Some(refused(why == CommandError::Memory && is_unread && buffer == [0; 512]))
 }
 
 /// A debugger that is refused within its lines has answered those before the one that takes memory.
@@ -339,9 +338,9 @@ pub(crate) fn debugged_states(alloc: Global) -> Option<Answer> {
         Err(why) => why,
     };
     Some(refused(match why {
-        DebugRomError::Memory => input.len() == STATE_LINES.len() && buffer == [0; 512],
-        DebugRomError::Debug(_) => ANSWERED.iter().any(|text| is_all(&buffer, text)),
-        DebugRomError::Cart(_) => false,
+        CommandError::Memory => input.len() == STATE_LINES.len() && buffer == [0; 512],
+        CommandError::Debug(_) => ANSWERED.iter().any(|text| is_all(&buffer, text)),
+        _ => false,
     }))
 }
 
@@ -366,8 +365,8 @@ pub(crate) fn debugged_game(alloc: Global) -> Option<Answer> {
     ) {
         Ok(_) => return Some(Answer::Done),
         Err(left) => {
-            let is_memory = left.why == DebugGameError::Memory
-                || left.why == DebugGameError::Session(SessionError::Memory);
+            let is_memory = left.why == CommandError::Memory
+                || left.why == CommandError::Session(SessionError::Memory);
             refused(is_memory && holds_the_game(alloc, left.device, &cartridge))
         }
     };

@@ -2,8 +2,8 @@
 use crate::asserting::{OrStop, holds, same};
 use cartridge::Cartridge;
 use machine::{Input, Machine, Region};
-use sector_device::{MemoryDevice, SectorDevice};
-use session::{Counts, Refused, Session, SessionError, new_game, new_game_from, resume};
+use sector_device::{MemoryDevice, Refused, SectorDevice};
+use session::{Counts, Session, SessionError, new_game, new_game_from, resume};
 use snapshot::{decode, encode, length};
 use std::alloc::Global;
 use std::process::Abort;
@@ -168,7 +168,7 @@ pub(crate) fn refused(
     alloc: Global,
     device: MemoryDevice,
     cartridge: &Cartridge,
-) -> Refused<MemoryDevice> {
+) -> Refused<SessionError, MemoryDevice> {
     match resume(alloc, device, cartridge) {
         Ok(_) => panic!(rt; "resumed"),
         Err(refused) => refused,

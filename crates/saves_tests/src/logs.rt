@@ -1,7 +1,7 @@
 //! Logs and generations: their bytes, their refusals, and what a cut leaves.
 use crate::asserting::{OrStop, holds, same};
-use sector_device::{MemoryDevice, SectorDevice};
-use sector_log::{Entry, Found, LogFault, Opened, Refused, Store, are_inputs, open_log};
+use sector_device::{MemoryDevice, Refused, SectorDevice};
+use sector_log::{Entry, Found, LogFault, Opened, Store, are_inputs, open_log};
 use std::alloc::Global;
 use std::process::Abort;
 use std::test::Fail;
@@ -48,7 +48,7 @@ fn begin(
     opened: Opened<MemoryDevice>,
     base: u64,
     blob: &[u8],
-) -> Result<Store<MemoryDevice>, Refused<MemoryDevice>> {
+) -> Result<Store<MemoryDevice>, Refused<LogFault, MemoryDevice>> {
     assert!(rt; blob.len() < 1_000_000);
     opened.begin([7; 32], base, blob)
 }

@@ -7,5 +7,6 @@ pub mod FileRecord
 pub mod FileDevice
 pub mod MemoryDevice
 pub mod FailingCalls
+pub mod Refusal
 -- what only the code needs
 pub mod RecordLaws

@@ -7,6 +7,7 @@ mod file_record;
 mod laws;
 mod memory;
 mod recorded;
+mod refused;
 mod replay;
 
 pub use device::{DeviceFault, SectorDevice};
@@ -16,3 +17,4 @@ pub use laws::{
     only_that_call_fails,
 };
 pub use memory::MemoryDevice;
+pub use refused::Refused;

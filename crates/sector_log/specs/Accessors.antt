@@ -3,7 +3,8 @@ use Rattle.std.specs.Prelude.{ℕ, List, Bool, Result, Ok, Err}
 use Rattle.sector_device.specs.declared.device.SectorDevice.{Ghosts}
 use Rattle.input_entries.specs.declared.StoredEntry.{StoredEntry}
 use Rattle.sector_log.specs.declared.store.Store.{Store}
-use Rattle.sector_log.specs.declared.fault.Refused.{Refused}
+use Rattle.sector_log.specs.declared.fault.LogFault.{LogFault}
+use Rattle.sector_device.specs.declared.refused.Refused.{Refused}
 
 module _ {D : Type 0} {disk : Ghosts D} where
   -- the device of a store
@@ -25,6 +26,6 @@ module _ {D : Type 0} {disk : Ghosts D} where
   id_of s = s.root.id
 
   -- the device that `begin` leaves
-  abbrev pub left_by_begin : Result (Store D disk) (Refused D) → D
+  abbrev pub left_by_begin : Result (Store D disk) (Refused LogFault D) → D
   left_by_begin (Ok store) = store.device
   left_by_begin (Err refused) = refused.device

@@ -4,7 +4,8 @@ use Rattle.sector_device.specs.declared.device.SectorDevice.{Ghosts}
 use Rattle.log_format.specs.Content.{last_generation}
 use Rattle.log_format.specs.Found.{Seen, found_with}
 use Rattle.sector_log.specs.declared.opened.Opened.{Opened}
-use Rattle.sector_log.specs.declared.fault.Refused.{Refused}
+use Rattle.sector_log.specs.declared.fault.LogFault.{LogFault}
+use Rattle.sector_device.specs.declared.refused.Refused.{Refused}
 
 module _ {D : Type 0} {disk : Ghosts D} where
   -- the device of a log that was opened
@@ -24,6 +25,6 @@ module _ {D : Type 0} {disk : Ghosts D} where
   seen o = record { found = found_with o.root o.too_small o.log.items; log = o.log.items; blob = if o.blob_read then Some o.blob.items else None }
 
   -- the device that `open_log` leaves
-  abbrev pub left_by_open : Result (Opened D disk) (Refused D) → D
+  abbrev pub left_by_open : Result (Opened D disk) (Refused LogFault D) → D
   left_by_open (Ok opened) = opened.device
   left_by_open (Err refused) = refused.device

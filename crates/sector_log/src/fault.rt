@@ -2,7 +2,7 @@
 ghost use Rattle.std.specs.Prelude.{◌≡◌};
 ghost use Rattle.sector_log.specs.declared.fault.LogFault.TheVariants.{Device};
 
-use sector_device::{DeviceFault, SectorDevice};
+use sector_device::DeviceFault;
 use thiserror::Error;
 
 /// Why a call of a log was refused, with the text of each reason.
@@ -37,12 +37,4 @@ impl From<DeviceFault> for LogFault {
     fn from(_: DeviceFault) -> Self {
         LogFault::Device
     }
-}
-
-/// A refusal that hands the device back.
-#[derive(Drop)]
-pub struct Refused<D: SectorDevice> {
-    pub why: LogFault,
-    /// As it was, unless `why` is `Device`: then as the failed call left it.
-    pub device: D,
 }

@@ -10,7 +10,7 @@ mod reading;
 mod store;
 mod writes;
 
-pub use fault::{LogFault, Refused};
+pub use fault::LogFault;
 pub use input_entries::{Entry, Logged, StoredEntry, are_inputs};
 pub use log_format::{
     Found, Header, Part, a_found_blob_fits, a_found_blob_has_its_length,

@@ -10,11 +10,11 @@ ghost use Rattle.log_format.specs.Sizes.{most_entries_read};
 ghost use Rattle.sector_log.specs.declared.fault.LogFault.TheVariants.{Memory, Device};
 
 use crate::StoredEntry;
-use crate::fault::{LogFault, Refused};
+use crate::fault::LogFault;
 use crate::generation::{begin_generation, refusal};
 use crate::store::Store;
 use log_format::{Found, Header, Part, Root, counted, last_generation, sectors_needed};
-use sector_device::SectorDevice;
+use sector_device::{Refused, SectorDevice};
 
 /// A device whose log was read, and to which nothing can be appended: only `begin` makes a store of
 /// it.
@@ -118,7 +118,12 @@ impl<D: SectorDevice> Opened<D> {
     /// Begins a new generation with this blob and an empty log. A power cut at any moment leaves
     /// the old content or the new one. `Err`: `TooSmall` or `GenerationsUsedUp`, with the device
     /// as it was, or `Device`.
-    pub fn begin(self, id: [u8; 32], base: u64, blob: &[u8]) -> Result<Store<D>, Refused<D>>
+    pub fn begin(
+        self,
+        id: [u8; 32],
+        base: u64,
+        blob: &[u8],
+    ) -> Result<Store<D>, Refused<LogFault, D>>
         requires { length blob.now < 2 ^ 32 }
         ensures images { (D.disk (device_under self)).honest →
             HoldsSince (D.disk (device_under self)) (D.disk (left_by_begin result))

@@ -7,11 +7,11 @@ ghost use Rattle.sector_log.specs.Promises.{HasOpened};
 ghost use Rattle.sector_log.specs.OpenedAccessors.{device_under, left_by_open};
 ghost use Rattle.sector_log.specs.declared.fault.LogFault.TheVariants.{Memory, Device};
 
-use crate::fault::{LogFault, Refused};
+use crate::fault::LogFault;
 use crate::opened::Opened;
 use crate::reading::{read_chosen_blob, read_chosen_log};
 use log_format::MOST_ENTRIES_READ;
-use sector_device::SectorDevice;
+use sector_device::{Refused, SectorDevice};
 use std::alloc::Global;
 
 /// Reads what is on a device. It begins with a sync and writes nothing. Blobs of up to `most` bytes
@@ -20,7 +20,7 @@ pub fn open_log<D: SectorDevice>(
     alloc: Global,
     device: D,
     most: usize,
-) -> Result<Opened<D>, Refused<D>>
+) -> Result<Opened<D>, Refused<LogFault, D>>
     ensures looked { (D.disk device).honest → HasLooked (D.disk device) (D.disk (left_by_open result)) }
     ensures opened { IfOk result (λ opened. HasOpened (D.disk device) (D.disk (device_under opened)) most opened) }
     ensures cause { IfErr result (λ refused.

@@ -5,7 +5,8 @@ use Rattle.sector_log.specs.Accessors.{device_of as device_of_store, is_broken a
 use Rattle.input_entries.specs.declared.Entry.{Entry}
 use Rattle.input_entries.specs.declared.StoredEntry.{StoredEntry}
 use Rattle.machine.specs.Machine.{MachineState}
-use Rattle.session.specs.declared.error.Refused.{Refused}
+use Rattle.session.specs.declared.error.SessionError.{SessionError}
+use Rattle.sector_device.specs.declared.refused.Refused.{Refused}
 use Rattle.session.specs.declared.session.Session.{Session}
 
 module _ {D : Type 0} {disk : Ghosts D} where
@@ -50,6 +51,6 @@ module _ {D : Type 0} {disk : Ghosts D} where
     pub generation : generation_in_use new ≡ generation_in_use old
 
   -- the device that `new_game`, `new_game_from` or `resume` leaves
-  abbrev pub left_by : Result (Session D disk) (Refused D) → D
+  abbrev pub left_by : Result (Session D disk) (Refused SessionError D) → D
   left_by (Ok session) = device_of session
   left_by (Err refused) = refused.device

@@ -3,7 +3,8 @@ use Rattle.std.specs.Prelude.{ℕ, List, Result, Ok, Err}
 use Rattle.sector_device.specs.declared.device.SectorDevice.{Ghosts}
 use Rattle.sector_log.specs.OpenedAccessors.{device_under, found_generation}
 use Rattle.machine.specs.Machine.{MachineState}
-use Rattle.session.specs.declared.error.Refused.{Refused}
+use Rattle.session.specs.declared.error.SessionError.{SessionError}
+use Rattle.sector_device.specs.declared.refused.Refused.{Refused}
 use Rattle.session.specs.declared.look.Look.{Look}
 
 module _ {D : Type 0} {disk : Ghosts D} where
@@ -31,6 +32,6 @@ module _ {D : Type 0} {disk : Ghosts D} where
   generation_of_look l = found_generation l.opened
 
   -- the device that `look_at` leaves
-  abbrev pub left_by_look : Result (Look D disk) (Refused D) → D
+  abbrev pub left_by_look : Result (Look D disk) (Refused SessionError D) → D
   left_by_look (Ok look) = device_of_look look
   left_by_look (Err refused) = refused.device

@@ -8,12 +8,13 @@ use Rattle.sector_device.specs.declared.device.SectorDevice.{Ghosts}
 use Rattle.log_format.specs.Content.{generation_in}
 use Rattle.session.specs.Calls.{CanBeginGame}
 use Rattle.session.specs.Found.{IsNewGameCause}
-use Rattle.session.specs.declared.error.Refused.{Refused}
+use Rattle.session.specs.declared.error.SessionError.{SessionError}
+use Rattle.sector_device.specs.declared.refused.Refused.{Refused}
 use Rattle.session.specs.declared.error.SessionError.TheVariants.{Memory, Device, GenerationsUsedUp}
 use Rattle.session.specs.declared.session.Session.{Session}
 
 module _ {D : Type 0} {disk : Ghosts D} where
-  pub record AnswersNewGame (rom : List ℕ) (device : D) (result : Result (Session D disk) (Refused D)) : Type 0 where
+  pub record AnswersNewGame (rom : List ℕ) (device : D) (result : Result (Session D disk) (Refused SessionError D)) : Type 0 where
     -- when it is refused
     pub can : IfOk result (λ s. CanBeginGame rom (disk.disk device))
     pub cause : IfErr result (λ refused. IsNewGameCause (snapshot_length (ram_length_of rom)) (length (disk.disk device).sectors) refused.why)

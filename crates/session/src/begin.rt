@@ -18,11 +18,11 @@ ghost use Rattle.session.specs.Resting.{IsOfItsRom};
 ghost use Rattle.session.specs.Accessors.{device_of, machine_of, rom_of, pending_of, acknowledged_of, is_broken, left_by};
 ghost use Rattle.session.specs.declared.error.SessionError.TheVariants.{Device};
 
-use crate::error::{Refused, SessionError};
+use crate::error::SessionError;
 use crate::session::{MOST_UNSAVED, Session};
 use cartridge::Cartridge;
 use machine::Machine;
-use sector_device::SectorDevice;
+use sector_device::{Refused, SectorDevice};
 use sector_log::{Entry, LogFault, Opened, open_log};
 use snapshot::encode;
 use std::alloc::{AllocError, Global};
@@ -111,7 +111,7 @@ pub fn new_game<D: SectorDevice>(
     alloc: Global,
     device: D,
     cartridge: &Cartridge,
-) -> Result<Session<D>, Refused<D>>
+) -> Result<Session<D>, Refused<SessionError, D>>
     // what is begun
     ensures begun { IfOk result (λ s. (acknowledged_of s ≡ 0) × (pending_of s ≡ []) × (is_broken s ≡ false)) }
     ensures machine { IfOk result (λ s. (machine_of s ≡ start cartridge.now) × (rom_of s ≡ cartridge.now)) }
@@ -148,7 +148,7 @@ pub fn new_game_from<D: SectorDevice>(
     device: D,
     cartridge: &Cartridge,
     machine: Machine,
-) -> Result<Session<D>, Refused<D>>
+) -> Result<Session<D>, Refused<SessionError, D>>
     requires { IsMachineOf cartridge.now machine }
 
     // what is begun
@@ -190,7 +190,7 @@ pub(crate) fn begin_with<D: SectorDevice>(
     count: u64,
     machine: Machine,
     room: Room,
-) -> Result<Session<D>, Refused<D>>
+) -> Result<Session<D>, Refused<SessionError, D>>
     requires rom { machine.processor.memory.banks.rom ≡ cartridge.now }
     requires own { IsOfItsRom machine }
     requires pending { (room.pending.items ≡ []) × (most_unsaved ≤ vec_capacity room.pending) }

@@ -1,6 +1,5 @@
 //! Why a call of a session was refused.
 
-use sector_device::SectorDevice;
 use sector_log::LogFault;
 use snapshot::SnapError;
 use thiserror::Error;
@@ -55,13 +54,4 @@ pub enum SessionError {
     /// The report could not be written.
     #[error("output failed")]
     Output,
-}
-
-/// A refusal that hands the device back.
-#[derive(Drop)]
-pub struct Refused<D: SectorDevice> {
-    pub why: SessionError,
-    /// Unless `why` is `Device`, nothing was written to it; a call that read what it holds made a
-    /// sync first.
-    pub device: D,
 }

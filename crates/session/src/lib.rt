@@ -19,7 +19,7 @@ mod save;
 pub mod session;
 
 pub use begin::{machine_at_power_on, new_game, new_game_from, sectors_needed};
-pub use error::{Damage, Refused, SessionError};
+pub use error::{Damage, SessionError};
 pub use look::Look;
 pub use looking::look_at;
 pub use resuming::resume;

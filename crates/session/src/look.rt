@@ -15,11 +15,11 @@ ghost use Rattle.session.specs.Resting.{IsOfItsRom, own_prop, LooksAt, looks_pro
 ghost use Rattle.session.specs.declared.error.SessionError.TheVariants.{Device, Output};
 
 use crate::begin::{begin_with, room_with};
-use crate::error::{Refused, SessionError};
+use crate::error::SessionError;
 use crate::session::Session;
 use cartridge::Cartridge;
 use machine::Machine;
-use sector_device::SectorDevice;
+use sector_device::{Refused, SectorDevice};
 use sector_log::{Found, Opened};
 use snapshot::encode;
 use std::alloc::Global;
@@ -136,7 +136,11 @@ impl<D: SectorDevice> Look<D> {
     /// image that stands for what was seen. Condition: the look was at a game of this cartridge.
     ///
     /// Refusals, in this order: `Memory` and `GenerationsUsedUp`, which change nothing; `Device`.
-    pub fn resume(self, alloc: Global, cartridge: &Cartridge) -> Result<Session<D>, Refused<D>>
+    pub fn resume(
+        self,
+        alloc: Global,
+        cartridge: &Cartridge,
+    ) -> Result<Session<D>, Refused<SessionError, D>>
         requires { rom_of_look self ≡ cartridge.now }
 
         // what is taken up

@@ -13,11 +13,11 @@ ghost use Rattle.session.specs.LookAccessors.{device_of_look, machine_of_look, c
 ghost use Rattle.session.specs.declared.error.SessionError.TheVariants.{Memory, Device, Output};
 
 use crate::begin::{blank_snapshot, fault_of, snapshot_length};
-use crate::error::{Refused, SessionError};
+use crate::error::SessionError;
 use crate::look::Look;
 use crate::recovery::recovered;
 use cartridge::Cartridge;
-use sector_device::SectorDevice;
+use sector_device::{Refused, SectorDevice};
 use sector_log::open_log;
 use std::alloc::Global;
 
@@ -30,7 +30,7 @@ pub fn look_at<D: SectorDevice>(
     alloc: Global,
     device: D,
     cartridge: &Cartridge,
-) -> Result<Look<D>, Refused<D>>
+) -> Result<Look<D>, Refused<SessionError, D>>
     ensures looked { (D.disk device).honest → HasLooked (D.disk device) (D.disk (left_by_look result)) }
 
     // what is seen

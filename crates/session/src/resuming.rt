@@ -12,11 +12,11 @@ ghost use Rattle.session.specs.Accessors.{device_of, machine_of, rom_of, pending
 ghost use Rattle.session.specs.declared.error.SessionError.TheVariants.{Memory, Device, Output};
 
 use crate::begin::{begin_with, fault_of, make_room, snapshot_length};
-use crate::error::{Refused, SessionError};
+use crate::error::SessionError;
 use crate::recovery::recovered;
 use crate::session::Session;
 use cartridge::Cartridge;
-use sector_device::SectorDevice;
+use sector_device::{Refused, SectorDevice};
 use sector_log::open_log;
 use std::alloc::Global;
 
@@ -30,7 +30,7 @@ pub fn resume<D: SectorDevice>(
     alloc: Global,
     device: D,
     cartridge: &Cartridge,
-) -> Result<Session<D>, Refused<D>>
+) -> Result<Session<D>, Refused<SessionError, D>>
     // what is taken up
     ensures begun { IfOk result (λ s. (pending_of s ≡ []) × (is_broken s ≡ false) × (rom_of s ≡ cartridge.now)) }
     ensures of { IfOk result (λ s. IsMachineOf cartridge.now (machine_of s)) }

@@ -23,7 +23,7 @@ use Rattle.sector_device.specs.declared.device.SectorDevice.{Ghosts}
 use Rattle.session.specs.Accessors.{device_of}
 use Rattle.session.specs.declared.session.Session.{Session as PlaySession}
 use Rattle.streaming.specs.declared.error.StreamError.{StreamError}
-use Rattle.streaming.specs.declared.error.StreamRefused.{StreamRefused}
+use Rattle.sector_device.specs.declared.refused.Refused.{Refused}
 use Rattle.streaming.specs.declared.error.StreamError.TheVariants.{Session as NotObeyed, Line as WrongLine, Input as FailedInput, Snapshot as DamagedSnapshot, Memory as LacksMemory}
 
 -- The lines that were read up to this end, and all that they ask for: it was done, answered and saved, from a position that is one of
@@ -84,6 +84,6 @@ faults_after_stream LacksMemory faults = faults
 
 -- the device that a stream leaves
 module _ {D : Type 0} {disk : Ghosts D} where
-  abbrev pub left_by : Result (PlaySession D disk) (StreamRefused D) → D
+  abbrev pub left_by : Result (PlaySession D disk) (Refused StreamError D) → D
   left_by (Ok session) = device_of session
   left_by (Err refused) = refused.device

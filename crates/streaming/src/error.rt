@@ -1,6 +1,5 @@
 //! Why a stream was refused.
 
-use sector_device::SectorDevice;
 use session::SessionError;
 use thiserror::Error;
 
@@ -22,11 +21,4 @@ pub enum StreamError {
     /// There was no memory for a line.
     #[error("no memory")]
     Memory,
-}
-
-/// A refusal that hands the device back.
-#[derive(Drop)]
-pub struct StreamRefused<D: SectorDevice> {
-    pub why: StreamError,
-    pub device: D,
 }

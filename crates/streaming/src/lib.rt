@@ -8,7 +8,7 @@ pub mod order;
 mod state_room;
 mod streamed;
 
-pub use error::{StreamError, StreamRefused};
+pub use error::StreamError;
 pub use obeying::{End, stream_on};
 pub use order::{Order, read_order};
 pub use state_room::StateRoom;

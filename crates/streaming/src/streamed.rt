@@ -4,13 +4,13 @@ ghost use Rattle.sector_device.specs.DiskState.{HasAnswered};
 ghost use Rattle.session.specs.Accessors.{device_of, machine_of, rom_of, pending_of, acknowledged_of, is_broken};
 ghost use Rattle.streaming.specs.Streamed.{HasStreamedAll, IsStreamCause, faults_after_stream, left_by};
 
-use crate::error::{StreamError, StreamRefused};
+use crate::error::StreamError;
 use crate::obeying::{End, stream_on};
 use crate::state_room::StateRoom;
 use cartridge::Cartridge;
 use exact_text::Output;
 use input_lines::LineInput;
-use sector_device::SectorDevice;
+use sector_device::{Refused, SectorDevice};
 use session::{Session, SessionError, resume};
 use std::alloc::Global;
 
@@ -44,7 +44,7 @@ pub fn stream<D: SectorDevice, R: LineInput, W: Output>(
     cartridge: &Cartridge,
     input: &mut R,
     out: &mut W,
-) -> Result<Session<D>, StreamRefused<D>>
+) -> Result<Session<D>, Refused<StreamError, D>>
     ensures streamed { IfOk result (λ s.
         HasStreamedAll cartridge.now (D.disk device) (D.disk (device_of s)) (acknowledged_of s) (machine_of s)
         (R.remaining input.old)
@@ -64,37 +64,37 @@ pub fn stream<D: SectorDevice, R: LineInput, W: Output>(
         (D.disk (left_by result)) result }
 {
     let Ok(mut room) = StateRoom::new(alloc, cartridge) else {
-        return Err(StreamRefused {
+        return Err(Refused {
             why: StreamError::Session(SessionError::Memory),
             device,
         });
     };
     let mut session = match resume(alloc, device, cartridge) {
         Ok(session) => session,
-        Err(refused) => return Err(StreamRefused {
+        Err(refused) => return Err(Refused {
             why: StreamError::Session(refused.why),
             device: refused.device,
         }),
     };
     match stream_on(&mut session, alloc, cartridge, &mut room, input, out) {
         Ok(End::Whole) => Ok(session),
-        Ok(End::Wrong(number)) => Err(StreamRefused {
+        Ok(End::Wrong(number)) => Err(Refused {
             why: StreamError::Line(number),
             device: session.into_device(),
         }),
-        Ok(End::Failed) => Err(StreamRefused {
+        Ok(End::Failed) => Err(Refused {
             why: StreamError::Input,
             device: session.into_device(),
         }),
-        Ok(End::Damaged) => Err(StreamRefused {
+        Ok(End::Damaged) => Err(Refused {
             why: StreamError::Snapshot,
             device: session.into_device(),
         }),
-        Ok(End::NoMemory) => Err(StreamRefused {
+        Ok(End::NoMemory) => Err(Refused {
             why: StreamError::Memory,
             device: session.into_device(),
         }),
-        Err(why) => Err(StreamRefused {
+        Err(why) => Err(Refused {
             why: StreamError::Session(why),
             device: session.into_device(),
         }),

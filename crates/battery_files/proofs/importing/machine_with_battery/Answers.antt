@@ -1,6 +1,6 @@
 use Rattle.std.proofs.Common.{◌≡◌, ◌∙◌, ◌+◌, ◌<◌, ◌≤◌, length, sym, ap, subst, arith}
 use Rattle.cartridge.specs.Header.{ram_length_of}
-use Rattle.bank_controllers.specs.State.{has_clock as has_clock_of, IsClockOf}
+use Rattle.bank_controllers.specs.State.{has_clock as has_clock_of}
 use Rattle.machine.specs.Machine.{MachineState, with_clocks}
 use Rattle.snapshot.specs.Legal.{IsMachineOf}
 use Rattle.battery_files.specs.Battery.{has_clock}

@@ -2,7 +2,7 @@ use Rattle.std.proofs.Common.{subst, sym}
 use Rattle.command_line.specs.declared.Request.TheVariants.{Frame}
 use Rattle.gbkeep.specs.Program.{IsRefused}
 use Rattle.gbkeep.specs.declared.fault.Fault.{Fault}
-use Rattle.gbkeep.proofs.Plays.{frame_refused}
+use Rattle.gbkeep.proofs.CommandTexts.{frame_refused}
 use Rattle.gbkeep.proofs.games.frame.Goals as goal
 
 pub returns-in-Ok-clause-served : goal.returns-in-Ok-clause-served

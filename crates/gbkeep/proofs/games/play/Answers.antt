@@ -3,7 +3,7 @@ use Rattle.command_line.specs.declared.Request.TheVariants.{Play}
 use Rattle.session.specs.Accessors.{device_of}
 use Rattle.gbkeep.specs.Program.{IsRefused}
 use Rattle.gbkeep.specs.declared.fault.Fault.{Fault}
-use Rattle.gbkeep.proofs.Plays.{play_refused}
+use Rattle.gbkeep.proofs.CommandTexts.{play_refused}
 use Rattle.gbkeep.proofs.games.play.Goals as goal
 
 pub returns-in-Ok-clause-served : goal.returns-in-Ok-clause-served

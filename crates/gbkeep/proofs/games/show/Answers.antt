@@ -2,7 +2,7 @@ use Rattle.std.proofs.Common.{subst, sym}
 use Rattle.command_line.specs.declared.Request.TheVariants.{Show}
 use Rattle.gbkeep.specs.Program.{IsRefused}
 use Rattle.gbkeep.specs.declared.fault.Fault.{Fault}
-use Rattle.gbkeep.proofs.FileTexts.{show_refused}
+use Rattle.gbkeep.proofs.CommandTexts.{show_refused}
 use Rattle.gbkeep.proofs.games.show.Goals as goal
 
 pub returns-in-Ok-clause-served : goal.returns-in-Ok-clause-served

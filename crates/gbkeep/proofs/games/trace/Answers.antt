@@ -2,7 +2,7 @@ use Rattle.std.proofs.Common.{subst, sym}
 use Rattle.command_line.specs.declared.Request.TheVariants.{Trace}
 use Rattle.gbkeep.specs.Program.{IsRefused}
 use Rattle.gbkeep.specs.declared.fault.Fault.{Fault}
-use Rattle.gbkeep.proofs.Traces.{trace_refused}
+use Rattle.gbkeep.proofs.CommandTexts.{trace_refused}
 use Rattle.gbkeep.proofs.games.trace.Goals as goal
 
 pub returns-in-Ok-clause-served : goal.returns-in-Ok-clause-served

@@ -1,4 +1,4 @@
-use Rattle.recording_lines.proofs.Together.{stand_together}
+use Rattle.gbkeep.proofs.Together.{stand_together}
 use Rattle.gbkeep.proofs.laws.new_files_stand_together.Goals as goal
 
 pub returns : goal.returns

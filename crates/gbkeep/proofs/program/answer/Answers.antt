@@ -1,6 +1,6 @@
 use Rattle.std.proofs.Common.{◌≡◌, Ok, sym, subst, ℕ, Result}
 use Rattle.gbkeep.specs.Program.{HasEnded}
-use Rattle.gbkeep.specs.Text.{Exchange}
+use Rattle.gbkeep.specs.Program.{Exchange}
 use Rattle.gbkeep.specs.declared.words.Asked.{Asked}
 use Rattle.gbkeep.specs.declared.words.Asked.TheVariants.{Command}
 use Rattle.gbkeep.specs.declared.fault.Fault.{Fault}

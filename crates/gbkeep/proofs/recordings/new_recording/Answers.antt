@@ -3,7 +3,7 @@ use Rattle.command_line.specs.declared.Request.TheVariants.{NewRecording}
 use Rattle.playing.proofs.Telling.{keeps_same}
 use Rattle.recording.specs.Accessors.{device_of}
 use Rattle.sector_device.specs.FileDevice.{file_disk}
-use Rattle.recording_lines.proofs.Together.{new_of_digest}
+use Rattle.gbkeep.proofs.Together.{new_of_digest}
 use Rattle.gbkeep.proofs.BatteryTexts.{accepted_image}
 use Rattle.gbkeep.proofs.BegunTexts.{begun_served}
 use Rattle.gbkeep.proofs.FileTexts.{not_begun, recording_begun}

@@ -2,7 +2,7 @@ use Rattle.std.proofs.Common.{subst, sym}
 use Rattle.command_line.specs.declared.Request.TheVariants.{Recorded}
 use Rattle.gbkeep.specs.Program.{IsRefused}
 use Rattle.gbkeep.specs.declared.fault.Fault.{Fault}
-use Rattle.gbkeep.proofs.FileTexts.{recorded_refused}
+use Rattle.gbkeep.proofs.CommandTexts.{recorded_refused}
 use Rattle.gbkeep.proofs.recordings.recorded.Goals as goal
 
 pub returns-in-Ok-clause-served : goal.returns-in-Ok-clause-served

@@ -2,10 +2,11 @@ use Rattle.std.proofs.Common.{ℕ, subst, sym}
 use Rattle.cartridge.specs.Accepted.{IsAccepted}
 use Rattle.sector_device.specs.FileDevice.{file_disk}
 use Rattle.command_line.specs.declared.Request.TheVariants.{Verify}
-use Rattle.recording_lines.specs.Verifying.{HasAgreed, IsLineCause}
+use Rattle.commands.specs.Verify.{HasAgreed, IsLineCause}
 use Rattle.gbkeep.specs.Program.{IsRefused}
 use Rattle.gbkeep.specs.declared.fault.Fault.{Fault}
-use Rattle.gbkeep.proofs.FileTexts.{err_at, ok_at, verify_refused}
+use Rattle.gbkeep.proofs.CommandTexts.{verify_refused}
+use Rattle.gbkeep.proofs.FileTexts.{err_at, ok_at}
 use Rattle.gbkeep.proofs.recordings.verify.Goals as goal
 
 pub returns-in-Ok-clause-served : goal.returns-in-Ok-clause-served

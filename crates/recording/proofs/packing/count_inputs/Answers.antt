@@ -1,6 +1,5 @@
-use Rattle.std.proofs.Common.{◌≡◌, [], length, get_or, ap, ◌∙◌, arith}
-use Rattle.std.proofs.lemmas.List.{take_all}
-use Rattle.input_entries.specs.Inputs.{inputs, inputs_in}
+use Rattle.std.proofs.Common.{◌≡◌, [], length, get_or, arith}
+use Rattle.input_entries.specs.Inputs.{inputs_in}
 use Rattle.input_entries.proofs.Meanings.{counts_all}
 use Rattle.recording.proofs.ListBytes.{few_inputs, inputs_more}
 use Rattle.recording.proofs.packing.count_inputs.Goals as goal

@@ -1,6 +1,4 @@
-use Rattle.std.proofs.Common.{◌≡◌, ◌<◌, ◌++◌, [], ℕ, zero, suc, length, take, drop, get_or, ap, ◌∙◌, sym, subst, arith}
-use Rattle.std.proofs.lemmas.List.{take_all}
-use Rattle.input_entries.specs.Inputs.{AllFive}
+use Rattle.std.proofs.Common.{◌++◌, [], length, drop, get_or, ap, ◌∙◌, sym, arith}
 use Rattle.input_entries.specs.declared.Entry.{Entry}
 use Rattle.input_entries.specs.Growing.{with_input, with_inputs}
 use Rattle.input_entries.proofs.MoreInputs.{next_input, stops, input_at, five_more}

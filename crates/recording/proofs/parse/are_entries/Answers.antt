@@ -1,4 +1,4 @@
-use Rattle.std.proofs.Common.{◌&&◌, ◌<◌, ◌+◌, [], drop, Bool, sym, ap, ◌∙◌, arith}
+use Rattle.std.proofs.Common.{◌&&◌, ◌+◌, [], drop, Bool, sym, ap, ◌∙◌, arith}
 use Rattle.std.specs.List.{list_all}
 use Rattle.input_entries.specs.Inputs.{is_entry}
 use Rattle.input_entries.proofs.Meanings.{not_entry, an_entry}

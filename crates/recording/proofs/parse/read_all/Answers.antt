@@ -1,6 +1,6 @@
 use Rattle.std.proofs.Common.{◌≡◌, ◌+◌, ◌-◌, ◌*◌, ◌++◌, ◌∷◌, ℕ, List, [], length, take, drop, sym, ap, ◌∙◌, arith}
 use Rattle.std.proofs.lemmas.List.{drop-drop}
-use Rattle.recording.specs.Format.{stored, entries_from}
+use Rattle.recording.specs.Format.{stored}
 use Rattle.recording.proofs.ListBytes.{length-entries_from, entries_more}
 use Rattle.recording.proofs.parse.read_all.Goals as goal
 

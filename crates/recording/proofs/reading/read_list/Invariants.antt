@@ -1,4 +1,4 @@
-use Rattle.std.proofs.Common.{◌≡◌, ◌↔◌, ◌≤◌, ◌<◌, ◌+◌, ◌*◌, ℕ, length, take, vec_capacity}
+use Rattle.std.proofs.Common.{◌≡◌, ◌≤◌, ◌<◌, ◌+◌, ◌*◌, ℕ, length, take, vec_capacity}
 use Rattle.sector_device.specs.DiskState.{sector_at}
 use Rattle.sector_device.specs.Looking.{LooksOnly}
 use Rattle.input_entries.specs.Inputs.{inputs}

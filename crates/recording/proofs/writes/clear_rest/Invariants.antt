@@ -1,4 +1,3 @@
-use Rattle.std.proofs.Common.{◌≡◌, ◌↔◌, length}
 use Rattle.sector_device.specs.DiskState.{Settled}
 use Rattle.sector_device.specs.Runs.{HoldsThroughout, Mixed, WrittenUpTo}
 use Rattle.recording.specs.Keeping.{blanked}

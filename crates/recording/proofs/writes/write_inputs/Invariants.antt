@@ -1,4 +1,4 @@
-use Rattle.std.proofs.Common.{◌≡◌, ◌↔◌, ◌≤◌, ◌<◌, ◌+◌, ◌-◌, ◌*◌, ◌++◌, min, length, take, drop, vec_capacity}
+use Rattle.std.proofs.Common.{◌≡◌, ◌≤◌, ◌<◌, ◌+◌, ◌-◌, ◌*◌, ◌++◌, min, length, take, drop, vec_capacity}
 use Rattle.sector_device.specs.DiskState.{Settled}
 use Rattle.sector_device.specs.Runs.{HoldsThroughout, Mixed, WrittenUpTo}
 use Rattle.input_entries.specs.Growing.{with_inputs}

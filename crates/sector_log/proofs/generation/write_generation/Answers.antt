@@ -1,7 +1,7 @@
-use Rattle.std.proofs.Common.{◌≡◌, ◌⊎◌, inl, refl, IsOk, ◌%◌, set, ◌∙◌, arith}
+use Rattle.std.proofs.Common.{◌≡◌, ◌⊎◌, inl, refl, IsOk, ◌%◌, set, ◌∙◌}
 use Rattle.sector_device.specs.DiskState.{Settled}
 use Rattle.sector_device.specs.Runs.{HoldsThroughout}
-use Rattle.sector_device.proofs.Runs.{has_synced, throughout_weaker, remembers_then, on_ok, ok_of}
+use Rattle.sector_device.proofs.Runs.{has_synced, throughout_weaker, on_ok, ok_of}
 use Rattle.log_format.specs.Content.{root_bytes}
 use Rattle.log_format.specs.Log.{fresh_area}
 use Rattle.sector_log.specs.Layout.{replaced}

@@ -1,4 +1,4 @@
-use Rattle.std.proofs.Common.{◌≡◌, ◌↔◌, ◌≤◌, ◌*◌, ◌-◌, ◌++◌, length, take, drop, vec_capacity, min}
+use Rattle.std.proofs.Common.{◌≡◌, ◌≤◌, ◌*◌, ◌-◌, ◌++◌, length, take, drop, vec_capacity, min}
 use Rattle.std.specs.List.{flat_map}
 use Rattle.sector_device.specs.Looking.{LooksOnly}
 use Rattle.sector_device.proofs.Runs.{AllWell}

@@ -1,4 +1,4 @@
-use Rattle.std.proofs.Common.{◌≡◌, ◌↔◌, ◌≤◌, ◌*◌, ◌++◌, length, take, drop, vec_capacity}
+use Rattle.std.proofs.Common.{◌≡◌, ◌≤◌, ◌*◌, ◌++◌, length, take, drop, vec_capacity}
 use Rattle.log_format.specs.Log.{log_from}
 use Rattle.sector_device.specs.Looking.{LooksOnly}
 use Rattle.sector_device.proofs.Runs.{AllWell}

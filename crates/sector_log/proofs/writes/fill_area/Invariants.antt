@@ -1,4 +1,4 @@
-use Rattle.std.proofs.Common.{◌≡◌, ◌↔◌, ◌+◌, length}
+use Rattle.std.proofs.Common.{◌+◌}
 use Rattle.sector_device.specs.DiskState.{Settled}
 use Rattle.sector_device.specs.Runs.{HoldsThroughout, Mixed, WrittenUpTo}
 use Rattle.sector_device.proofs.Runs.{AllWell}

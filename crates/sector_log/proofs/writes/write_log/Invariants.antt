@@ -1,4 +1,4 @@
-use Rattle.std.proofs.Common.{◌≡◌, ◌↔◌, ◌≤◌, ◌<◌, ◌+◌, ℕ, length}
+use Rattle.std.proofs.Common.{◌≡◌, ◌≤◌, ◌<◌, ◌+◌, ℕ}
 use Rattle.sector_device.specs.DiskState.{Settled, sector_at}
 use Rattle.sector_device.specs.Runs.{HoldsThroughout, Mixed, WrittenUpTo}
 use Rattle.log_format.specs.Log.{log_area}

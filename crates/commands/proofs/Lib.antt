@@ -1,0 +1,9 @@
+pub mod Copies
+pub mod Begun
+pub mod HeaderLines
+pub mod Plays
+pub mod Traces
+pub mod Streams
+pub mod Lines
+pub mod Shown
+pub mod Causes

@@ -1,0 +1,11 @@
+pub mod Text
+pub mod Refusals
+pub mod Info
+pub mod Step
+pub mod Play
+pub mod Trace
+pub mod Stream
+pub mod Show
+pub mod Recorded
+pub mod Verify
+pub mod Debug

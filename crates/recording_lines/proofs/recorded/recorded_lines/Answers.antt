@@ -1,6 +1,0 @@
-use Rattle.std.proofs.Common.{sym, ◌∙◌}
-use Rattle.recording_lines.proofs.Causes.{script_output}
-use Rattle.recording_lines.proofs.recorded.recorded_lines.Goals as goal
-
-pub returns-clause-output : goal.returns-clause-output
-returns-clause-output g c = λ output. c.in-Err-written.ensures.output (script_output c.in-Err-written.why (sym c.error_of.ensures ∙ output))

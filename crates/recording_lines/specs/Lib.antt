@@ -1,3 +1,0 @@
-pub mod Script
-pub mod Verifying
-pub mod Beginning
