@@ -382,20 +382,34 @@ def test_prompt(room):
         os.execvpe(sys.executable, [str(word) for word in room.words(CART)], dict(os.environ, TERM='dumb', INPUTRC='/dev/null'))
     got = b''
 
-    def types(text, wanted):
+    def reads(wanted, seconds):
         nonlocal got
-        got, end = b'', time.monotonic() + SECONDS
-        os.write(terminal, text)
-        while wanted not in got:
-            if time.monotonic() > end:
-                wrong(f'the prompt: {text!r} gives {got!r}, and not {wanted!r}')
+        got, end = b'', time.monotonic() + seconds
+        while wanted not in got and time.monotonic() < end:
             if select.select([terminal], [], [], 0.1)[0]:
                 got += os.read(terminal, 4096)
+        return wanted in got
+
+    def types(text, wanted):
+        os.write(terminal, text)
+        if not reads(wanted, SECONDS):
+            wrong(f'the prompt: {text!r} gives {got!r}, and not {wanted!r}')
+
+    def clears():
+        os.write(terminal, b'\x03')
+        end = time.monotonic() + SECONDS
+        while not reads(b'gbkeep> ', 2):
+            if time.monotonic() > end:
+                wrong(f'the prompt: a Ctrl-C gives {got!r}')
+            # while Python's readline is at work on a key, as it may still be on the Tab, it overlooks a Ctrl-C: a person presses a key, and it again
+            os.write(terminal, b' ')
+            time.sleep(0.2)
+            os.write(terminal, b'\x03')
     types(b'', b'IME=0\r\n0100 00     NOP\r\n0101 C35001 JP 0150\r\n0104 00     NOP\r\ngbkeep> ')
     types(b'regi\t', b'registers ')
     types(b'\n', b'IME=0\r\ngbkeep> ')
     types(b'until 9 forev\t', b'forever ')
-    types(b'\x03', b'gbkeep> ')
+    clears()
     types(b'until wolk\n', b'(there is walk)\r\ngbkeep> ')
     types(b'step\n', b'0100 00     NOP\r\nA=01 F=B0 Z-HC B=00 C=13 D=00 E=D8 H=01 L=4D SP=FFFE PC=0101 IME=0\r\n0101 C35001 JP 0150\r\n0104 00     NOP\r\n0105 00     NOP\r\ngbkeep> ')
     types(b'until-op 10000001 40\n', b'no number from 1 to 10,000,000\r\ngbkeep> ')
