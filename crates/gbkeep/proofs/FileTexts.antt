@@ -13,20 +13,26 @@ use Rattle.recording.specs.declared.fault.RecordingFault.{RecordingFault}
 use Rattle.recording.specs.declared.fault.RecordingFault.TheVariants.{Memory, Device, TooSmall, NotBlank, NoRecording, OtherCartridge, Full, Broken}
 use Rattle.gbkeep.specs.NewFiles.{IsNewRecording}
 use Rattle.battery_files.specs.Exporting.{IsExportCause}
-use Rattle.battery_files.specs.declared.error.ExportError.{ExportError}
+use Rattle.cartridge.specs.declared.error.CartError.{CartError}
+use Rattle.session.specs.declared.error.SessionError.{SessionError}
 use Rattle.battery_files.specs.declared.error.ExportError.TheVariants.{Cart as ExportCart, NoBattery, Session as ExportSession}
 use Rattle.battery_files.specs.Importing.{start_with}
 use Rattle.command_line.specs.declared.Request.TheVariants.{Export, Import}
 use Rattle.gbkeep.specs.Request.{HasBegun, IsEnough, IsGameBegun, IsImported, IsNewRecordingCause, IsRecordingBegun, OfAFile, sectors_for}
-use Rattle.gbkeep.specs.Program.{IsRefused, fault_of_export}
+use Rattle.gbkeep.specs.Program.{IsRefused}
+use Rattle.gbkeep.specs.declared.fault.Fault.TheVariants.{Cart as ACart, NoBattery as NoBatteryThere, Session as ASession}
 
 -- ---- a refusal
 
-pub export_refused : (cart save out : Bor (List ℕ)) (rom : List ℕ) (file : FileDevice) (old new : Option (List ℕ)) → Keeps old new → (why : ExportError)
-    → IsExportCause rom (file_disk file) why → IsRefused (Export cart save out) (fault_of_export why) old new
-export_refused cart save out rom file old new keeps (ExportCart fault) cause = (tt, keeps, (rom, cause))
-export_refused cart save out rom file old new keeps NoBattery cause = (keeps, (rom, cause.0, cause.1))
-export_refused cart save out rom file old new keeps (ExportSession why) cause = (keeps, (rom, (file, cause)))
+module _ (cart save out : Bor (List ℕ)) (rom : List ℕ) (file : FileDevice) (old new : Option (List ℕ)) (keeps : Keeps old new) where
+  pub export_no_cartridge : (why : CartError) → IsExportCause rom (file_disk file) (ExportCart why) → IsRefused (Export cart save out) (ACart why) old new
+  export_no_cartridge why cause = (tt, keeps, (rom, cause))
+
+  pub export_no_battery : IsExportCause rom (file_disk file) NoBattery → IsRefused (Export cart save out) NoBatteryThere old new
+  export_no_battery cause = (keeps, (rom, cause.0, cause.1))
+
+  pub export_no_session : (why : SessionError) → IsExportCause rom (file_disk file) (ExportSession why) → IsRefused (Export cart save out) (ASession why) old new
+  export_no_session why cause = (keeps, (rom, (file, cause)))
 
 -- ---- what is begun in a file that was made of so many zero sectors
 

@@ -15,8 +15,16 @@ use Rattle.recorded_play.specs.declared.error.RecordError.TheVariants.{Session, 
 use Rattle.playing.proofs.Telling.{keeps_same}
 use Rattle.gbkeep.specs.declared.fault.Fault.{Fault}
 use Rattle.gbkeep.specs.declared.fault.Fault.TheVariants.{Cart as ACart, Memory as AMemory, File as AFile, Output as AnOutput, Address as AnAddress, Word as AWord, Device as ADevice, Script as AScript, Session as ASession, Line as ALine, Input as AnInput, Snapshot as ASnapshot, Recording as ARecording, Behind as ABehind, Ahead as AnAhead, Differ as ADiffer, RecordedGame as ARecordedGame, TestFailed as ATestFailed, TestUndecided as ATestUndecided, NoBattery as NoBatteryThere, BatteryLength as ABatteryLength}
-use Rattle.gbkeep.specs.Program.{IsNotOf, IsRecordRefused, fault_of_record, fault_of_command}
+use Rattle.gbkeep.specs.Program.{IsNotOf, IsRecordRefused, fault_of_command}
 use Rattle.gbkeep.specs.Request.{IsNotBelonging, IsRecordedTo, record_limits}
+
+-- what a recorded play that was refused is for the program
+abbrev pub fault_of_record : RecordError → Fault
+fault_of_record (Session why) = ASession why
+fault_of_record (Recording why) = ARecording why
+fault_of_record (Behind count) = ABehind count
+fault_of_record (Line number) = ALine number
+fault_of_record Input = AnInput
 
 module _ (rom : List ℕ) (accepted : IsAccepted rom) (save now_save recording now_recording : FileDevice) (before_in since_in before since : Option (List ℕ)) where
   pub recorded_to : (end : End)

@@ -21,16 +21,10 @@ use Rattle.gbkeep.specs.declared.words.Asked.TheVariants.{Command, Help, Misuse,
 use Rattle.commands.specs.declared.error.CommandError.{CommandError}
 use Rattle.commands.specs.declared.error.CommandError.TheVariants.{Cart as NoCartridge, Script as WrongScript, Session as NoGame, Stream as StreamEnded, Recording as NoTape, Verify as NotVerified, Debug as DebugEnded, Memory as CommandMemory, Output as CommandOutput}
 use Rattle.gbkeep.specs.declared.fault.Fault.{Fault}
-use Rattle.test_run.specs.declared.error.TestError.{TestError}
 use Rattle.test_run.specs.declared.error.TestError.TheVariants.{Cart as TestCart, Script as TestScript, Memory as TestMemory, Output as TestOutput}
 use Rattle.test_run.specs.declared.verdict.Verdict.TheVariants.{Passed, Failed, Undecided}
 use Rattle.test_run.specs.Refusals.{IsTested, IsTestRefused}
-use Rattle.recorded_play.specs.declared.error.RecordError.{RecordError}
-use Rattle.recorded_play.specs.declared.error.RecordError.TheVariants.{Session as RecordSession, Recording as RecordRecording, Behind as RecordBehind, Line as RecordLine, Input as RecordInput}
-use Rattle.battery_files.specs.declared.error.ExportError.{ExportError}
-use Rattle.battery_files.specs.declared.error.ExportError.TheVariants.{Cart as ExportCart, NoBattery as ExportNoBattery, Session as ExportSession}
-use Rattle.battery_files.specs.declared.error.ImportError.{ImportError}
-use Rattle.battery_files.specs.declared.error.ImportError.TheVariants.{NoBattery as ImportNoBattery, Length as ImportLength, Memory as ImportMemory}
+use Rattle.recorded_play.specs.declared.error.RecordError.TheVariants.{Session as RecordSession, Recording as RecordRecording, Behind as RecordBehind}
 use Rattle.debugging.specs.declared.error.DebugError.TheVariants.{Input as DebugInput, Output as DebugOutput, Memory as DebugMemory}
 use Rattle.sector_device.specs.DiskState.{DiskState}
 use Rattle.replaying.specs.Verifying.{IsVerifyCause}
@@ -88,33 +82,6 @@ fault_of_command (DebugEnded DebugMemory) = Memory
 fault_of_command CommandMemory = Memory
 fault_of_command CommandOutput = Output
 
--- and what a recorded play that was refused is
-abbrev pub fault_of_record : RecordError → Fault
-fault_of_record (RecordSession fault) = Session fault
-fault_of_record (RecordRecording fault) = Recording fault
-fault_of_record (RecordBehind count) = Behind count
-fault_of_record (RecordLine number) = Line number
-fault_of_record RecordInput = Input
-
--- and what a test that was not run to its end is
-abbrev pub fault_of_test : TestError → Fault
-fault_of_test (TestCart fault) = Cart fault
-fault_of_test (TestScript fault) = Script fault
-fault_of_test TestMemory = Memory
-fault_of_test TestOutput = Output
-
--- and what a battery file that is not written is, or not taken
-abbrev pub fault_of_export : ExportError → Fault
-fault_of_export (ExportCart fault) = Cart fault
-fault_of_export ExportNoBattery = NoBattery
-fault_of_export (ExportSession fault) = Session fault
-
-abbrev pub fault_of_import : ImportError → Fault
-fault_of_import ImportNoBattery = NoBattery
-fault_of_import (ImportLength found needed) = BatteryLength found needed
-fault_of_import ImportMemory = Memory
-
--- and what a debugger that was not begun, or stopped, is
 -- a test of this ROM with this script was done, or it was refused
 abbrev pub IsTestServed : (rom text : List ℕ) → (frames : ℕ) → Result Unit Fault → Option (List ℕ) → Option (List ℕ) → Type 0
 IsTestServed rom text frames (Ok u) old new = IsTested rom text frames old new Passed

@@ -18,7 +18,7 @@ use crate::games::sectors_or;
 use crate::making::{MakingDevice, durable_file, new_device};
 use crate::marks::unmark;
 use arrayvec::ArrayString;
-use battery_files::{export_battery, machine_with_battery};
+use battery_files::{ExportError, ImportError, export_battery, machine_with_battery};
 use cartridge::Cartridge;
 use command_line::Request;
 use exact_text::{Output, OutputFailed, number_digits, write_whole};
@@ -46,7 +46,13 @@ pub(crate) fn export<R: Files<File = File> + AllocGlobal, O: Output>(
     let device = FileDevice::attach(rt, Path::new(save))?;
     let exported = match export_battery(rt.alloc(), device, rom) {
         Ok(exported) => exported,
-        Err(refused) => return Err(Fault::from(refused.why)),
+        Err(refused) => {
+            return Err(match refused.why {
+                ExportError::Cart(why) => Fault::Cart(why),
+                ExportError::NoBattery => Fault::NoBattery,
+                ExportError::Session(why) => Fault::Session(why),
+            });
+        }
     };
     durable_file(rt, battery, exported.bytes.as_slice())?;
     match write_exported(out, exported.count) {
@@ -121,7 +127,9 @@ fn taken(alloc: Global, cartridge: &Cartridge, battery: &[u8]) -> Result<(), Fau
 {
     match machine_with_battery(alloc, cartridge, battery) {
         Ok(_) => Ok(()),
-        Err(why) => Err(Fault::from(why)),
+        Err(ImportError::NoBattery) => Err(Fault::NoBattery),
+        Err(ImportError::Length { found, needed }) => Err(Fault::BatteryLength { found, needed }),
+        Err(ImportError::Memory) => Err(Fault::Memory),
     }
 }
 

@@ -2,14 +2,12 @@
 
 ghost use Rattle.std.specs.Prelude.{◌≡◌, Some};
 ghost use Rattle.gbkeep.specs.declared.fault.Fault.TheVariants.{Cart, Device};
-ghost use Rattle.gbkeep.specs.Program.{HasLine, fault_of_command, fault_of_export, fault_of_import, fault_of_record, fault_of_test, line_of, status_of};
+ghost use Rattle.gbkeep.specs.Program.{HasLine, fault_of_command, line_of, status_of};
 
-use battery_files::{ExportError, ImportError};
 use cartridge::CartError;
 use commands::CommandError;
 use debugging::DebugError;
 use exact_text::{Output, write_whole};
-use recorded_play::RecordError;
 use recording::RecordingFault;
 use replaying::VerifyError;
 use script::ScriptError;
@@ -17,7 +15,6 @@ use sector_device::DeviceFault;
 use session::SessionError;
 use std::fmt::Display;
 use streaming::StreamError;
-use test_run::TestError;
 
 /// The statuses of the program.
 pub(crate) const DONE: u8 = 0;
@@ -106,57 +103,6 @@ impl From<CommandError> for Fault {
             CommandError::Debug(DebugError::Memory) => Fault::Memory,
             CommandError::Memory => Fault::Memory,
             CommandError::Output => Fault::Output,
-        }
-    }
-}
-
-impl From<RecordError> for Fault {
-    ghost from_gives = { λ why fault. fault ≡ fault_of_record why };
-
-    fn from(why: RecordError) -> Fault {
-        match why {
-            RecordError::Session(why) => Fault::Session(why),
-            RecordError::Recording(why) => Fault::Recording(why),
-            RecordError::Behind(count) => Fault::Behind(count),
-            RecordError::Line(number) => Fault::Line(number),
-            RecordError::Input => Fault::Input,
-        }
-    }
-}
-
-impl From<TestError> for Fault {
-    ghost from_gives = { λ why fault. fault ≡ fault_of_test why };
-
-    fn from(why: TestError) -> Fault {
-        match why {
-            TestError::Cart(why) => Fault::Cart(why),
-            TestError::Script(why) => Fault::Script(why),
-            TestError::Memory => Fault::Memory,
-            TestError::Output => Fault::Output,
-        }
-    }
-}
-
-impl From<ExportError> for Fault {
-    ghost from_gives = { λ why fault. fault ≡ fault_of_export why };
-
-    fn from(why: ExportError) -> Fault {
-        match why {
-            ExportError::Cart(why) => Fault::Cart(why),
-            ExportError::NoBattery => Fault::NoBattery,
-            ExportError::Session(why) => Fault::Session(why),
-        }
-    }
-}
-
-impl From<ImportError> for Fault {
-    ghost from_gives = { λ why fault. fault ≡ fault_of_import why };
-
-    fn from(why: ImportError) -> Fault {
-        match why {
-            ImportError::NoBattery => Fault::NoBattery,
-            ImportError::Length { found, needed } => Fault::BatteryLength { found, needed },
-            ImportError::Memory => Fault::Memory,
         }
     }
 }

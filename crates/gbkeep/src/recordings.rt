@@ -14,7 +14,7 @@ use command_line::Request;
 use commands::{CommandError, recorded_lines, verify_line};
 use exact_text::Output;
 use input_lines::LineInput;
-use recorded_play::record as record_play;
+use recorded_play::{RecordError, record as record_play};
 use recording::{RecordingFault, create_recording};
 use replaying::{Limits, verify as verify_within};
 use sector_device::{DeviceFault, FileDevice};
@@ -97,7 +97,13 @@ pub(crate) fn record<R: Files<File = File> + AllocGlobal, I: LineInput, O: Outpu
         out,
     ) {
         Ok(_left) => Ok(()),
-        Err(refused) => Err(Fault::from(refused.why)),
+        Err(refused) => Err(match refused.why {
+            RecordError::Session(why) => Fault::Session(why),
+            RecordError::Recording(why) => Fault::Recording(why),
+            RecordError::Behind(count) => Fault::Behind(count),
+            RecordError::Line(number) => Fault::Line(number),
+            RecordError::Input => Fault::Input,
+        }),
     }
 }
 

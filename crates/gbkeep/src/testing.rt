@@ -9,7 +9,7 @@ use command_line::Request;
 use exact_text::Output;
 use std::fs::File;
 use std::rt::Files;
-use test_run::{Verdict, run_test};
+use test_run::{TestError, Verdict, run_test};
 
 /// Runs a test ROM, with the moves of a script first if one is named, and prints what it sends and how it ended. Done: it has passed.
 pub(crate) fn test<R: Files<File = File> + AllocGlobal, O: Output>(
@@ -47,6 +47,9 @@ fn test_with<R: AllocGlobal, O: Output>(
         Ok(Verdict::Passed) => Ok(()),
         Ok(Verdict::Failed) => Err(Fault::TestFailed),
         Ok(Verdict::Undecided) => Err(Fault::TestUndecided),
-        Err(why) => Err(Fault::from(why)),
+        Err(TestError::Cart(why)) => Err(Fault::Cart(why)),
+        Err(TestError::Script(why)) => Err(Fault::Script(why)),
+        Err(TestError::Memory) => Err(Fault::Memory),
+        Err(TestError::Output) => Err(Fault::Output),
     }
 }

@@ -1,11 +1,12 @@
-use Rattle.std.proofs.Common.{◌≡◌, List, ℕ, refl, subst, sym}
+use Rattle.std.proofs.Common.{◌≡◌, ◌∙◌, List, ℕ, ap, refl, subst, sym}
 use Rattle.cartridge.specs.Accepted.{IsAccepted}
 use Rattle.recording.specs.Accessors.{device_of as device_of_recording}
 use Rattle.session.specs.Accessors.{device_of}
 use Rattle.gbkeep.specs.Program.{IsRecordRefused}
 use Rattle.gbkeep.specs.declared.fault.Fault.{Fault}
-use Rattle.gbkeep.proofs.RecordTexts.{not_belonging, recorded_to, record_refused}
+use Rattle.gbkeep.proofs.RecordTexts.{fault_of_record, not_belonging, recorded_to, record_refused}
 use Rattle.gbkeep.proofs.recordings.record.Goals as goal
+use Rattle.gbkeep.proofs.recordings.record.Goals.{in-Session, in-Recording, in-Behind, in-Line, in-Input}
 
 accepted_as : (rom image : List ℕ) → image ≡ rom → IsAccepted rom → IsAccepted image
 accepted_as rom image is accepted = subst (λ (r : List ℕ). IsAccepted r) (sym is) accepted
@@ -22,6 +23,19 @@ returns-in-Err-clause-served g c =
 
 pub returns-clause-served : goal.returns-clause-served
 returns-clause-served g c =
-    subst (λ (fault : Fault). IsRecordRefused fault (record { before = g.I.LineInput.remaining c.args.input.now; since = g.I.LineInput.remaining c.record.new.input }) (record { before = g.O.Output.contents c.args.out.now; since = g.O.Output.contents c.record.new.out })) (sym c.from.ensures)
-    (record_refused c.in_ok-cartridge.cartridge (accepted_as _ _ c.in_ok-cartridge.ensures.image (c.in_ok-cartridge.ensures.accepted.0 refl)) c.in-Ok.pair.save
-    c.in-Err-record_play.refused.save c.in-Ok.pair.recording c.in-Err-record_play.refused.recording _ _ _ _ c.in-Err-record_play.refused.why c.in-Err-record_play.ensures.refused)
+    let accepted = accepted_as _ _ c.in_ok-cartridge.ensures.image (c.in_ok-cartridge.ensures.accepted.0 refl) in
+    let was = g.I.LineInput.remaining c.args.input.now in
+    let now = g.I.LineInput.remaining c.record.new.input in
+    let before = g.O.Output.contents c.args.out.now in
+    let since = g.O.Output.contents c.record.new.out in
+    let cause = c.in-Err-record_play.ensures.refused in
+    let IsOf = λ (fault : Fault). IsRecordRefused fault (record { before = was; since = now }) (record { before = before; since = since }) in
+    let refused = record_refused c.in_ok-cartridge.cartridge accepted c.in-Ok.pair.save c.in-Err-record_play.refused.save c.in-Ok.pair.recording c.in-Err-record_play.refused.recording was now before since in
+    let is_of : c.match-refused.result ≡ fault_of_record c.in-Err-record_play.refused.why = elim c.match-refused.branch [
+      | in-Session w ↦ w.result-is ∙ sym (ap fault_of_record w.in-Session.is)
+      | in-Recording w ↦ w.result-is ∙ sym (ap fault_of_record w.in-Recording.is)
+      | in-Behind w ↦ w.result-is ∙ sym (ap fault_of_record w.in-Behind.is)
+      | in-Line w ↦ w.result-is ∙ sym (ap fault_of_record w.in-Line.is)
+      | in-Input w ↦ w.result-is ∙ sym (ap fault_of_record w.in-Input.is)
+    ] in
+    subst IsOf (sym is_of) (refused c.in-Err-record_play.refused.why cause)
