@@ -142,8 +142,9 @@ impl LineDebugger {
             mut kept,
         } = self;
         let mut unread = ArrayVec::new();
+        let mut ended = Ok(());
         for number in 1..u64::MAX {
-            match next_given(&mut unread, input, &mut snapshot) {
+            let written = match next_given(&mut unread, input, &mut snapshot) {
                 NextGiven::Line(line) => {
                     if let Some(order) = read_state_order(line.as_slice()) {
                         run = match switch(alloc, cartridge, run, &mut kept, order, number, out) {
@@ -154,32 +155,31 @@ impl LineDebugger {
                     }
                     let answered = answer(run, line.as_slice(), number, rom, &mut snapshot, out);
                     run = answered.run;
-                    if answered.written.is_err() {
-                        return Err(DebugError::Output);
-                    }
+                    answered.written
                 }
                 NextGiven::State => {
                     let answered = restore(run, cartridge, &snapshot, number, out);
                     run = answered.run;
-                    if answered.written.is_err() {
-                        return Err(DebugError::Output);
-                    }
+                    answered.written
                 }
-                NextGiven::Wrong => {
-                    if write_wrong(number, out).is_err() {
-                        return Err(DebugError::Output);
-                    }
-                }
+                NextGiven::Wrong => write_wrong(number, out),
                 NextGiven::Last => {
                     if write_wrong(number, out).is_err() {
-                        return Err(DebugError::Output);
+                        ended = Err(DebugError::Output);
                     }
-                    return Ok(());
+                    break;
                 }
-                NextGiven::End => return Ok(()),
-                NextGiven::Failed => return Err(DebugError::Input),
+                NextGiven::End => break,
+                NextGiven::Failed => {
+                    ended = Err(DebugError::Input);
+                    break;
+                }
+            };
+            if written.is_err() {
+                ended = Err(DebugError::Output);
+                break;
             }
         }
-        Ok(())
+        ended
     }
 }
