@@ -170,6 +170,7 @@ fn debug_machine<R: LineInput, W: Output>(
         Err(_) => return Err(CommandError::Memory),
     };
     if let Err(_) = write_resumed(out, inputs) {
+        drop(debugger);
         return Err(CommandError::Debug(DebugError::Output));
     }
     match debugger.obey(alloc, cartridge, input, out) {

@@ -36,15 +36,18 @@ pub fn list_lines<W: Output>(
         Ok(cartridge) => cartridge,
         Err(fault) => return Err(CommandError::Cart(fault)),
     };
-    let machine = match Machine::power_on(alloc, &cartridge) {
-        Ok(machine) => machine,
-        Err(_) => return Err(CommandError::Memory),
+    let listed = {
+        let machine = match Machine::power_on(alloc, &cartridge) {
+            Ok(machine) => machine,
+            Err(_) => return Err(CommandError::Memory),
+        };
+        let debugger = match Debugger::new(alloc, machine, 1) {
+            Ok(debugger) => debugger,
+            Err(_) => return Err(CommandError::Memory),
+        };
+        debugger.list(address, count, out)
     };
-    let debugger = match Debugger::new(alloc, machine, 1) {
-        Ok(debugger) => debugger,
-        Err(_) => return Err(CommandError::Memory),
-    };
-    match debugger.list(address, count, out) {
+    match listed {
         Ok(()) => Ok(()),
         Err(_) => Err(CommandError::Output),
     }

@@ -101,15 +101,37 @@ fn write_trace<W: Output>(
         (W.contents out.new)) }
     ensures output { IfErr result (λ why. why ≡ CommandError.Output → W.has_failed out.new ≡ true) }
 {
-    let Some(mut debugger) = debugger_of(alloc, machine, cartridge) else {
-        return Err(CommandError::Memory);
+    let written = {
+        let Some(mut debugger) = debugger_of(alloc, machine, cartridge) else {
+            return Err(CommandError::Memory);
+        };
+        write_text(inputs, &mut debugger, count, out)
     };
-    if write_resumed(out, inputs).is_err() {
-        return Err(CommandError::Output);
-    }
-    match write_steps(&mut debugger, count, out) {
+    match written {
         Ok(()) => Ok(()),
         Err(_) => Err(CommandError::Output),
+    }
+}
+
+/// Writes the line of the game, and those of so many steps.
+fn write_text<W: Output>(
+    inputs: u64,
+    debugger: &mut Debugger,
+    count: u32,
+    out: &mut W,
+) -> Result<(), OutputFailed>
+    ensures ok { OnOk result
+        (Appends (W.contents out.old) (W.contents out.new) (trace_text inputs debugger.old.machine count)) }
+    ensures err { OnErr result
+        (AppendsProperPrefix (W.contents out.old) (W.contents out.new) (trace_text inputs debugger.old.machine count)) }
+    ensures failed { OnErr result (W.has_failed out.new ≡ true) }
+{
+    if let Err(fault) = write_resumed(out, inputs) {
+        return Err(fault);
+    }
+    match write_steps(debugger, count, out) {
+        Ok(()) => Ok(()),
+        Err(fault) => Err(fault),
     }
 }
 

@@ -10,7 +10,7 @@ use arrayvec::ArrayVec;
 use input_lines::{LineInput, NextLine, Taken, Unread, next_line, skip_bytes, take_bytes};
 
 /// What comes next.
-#[derive(Clone, Drop)]
+#[derive(Drop)]
 pub(crate) enum NextGiven {
     /// A line that asks for no bytes, without its newline.
     Line(ArrayVec<u8, 128>),

@@ -63,8 +63,14 @@ impl LineDebugger {
     {
         let rom = cartridge.rom().len();
         let room = length(machine.region(Region::CartRam).len());
-        let snapshot = vec![in alloc; 0u8; room]?;
-        let kept = KeptStates::new(alloc)?;
+        let Ok(snapshot) = vec![in alloc; 0u8; room] else {
+            drop(machine);
+            return Err(AllocError);
+        };
+        let Ok(kept) = KeptStates::new(alloc) else {
+            drop(machine);
+            return Err(AllocError);
+        };
         let run = Run::new(alloc, machine)?;
         Ok(LineDebugger {
             run,
@@ -180,6 +186,7 @@ impl LineDebugger {
                 break;
             }
         }
+        drop(run);
         ended
     }
 }

@@ -46,7 +46,7 @@ pub struct Span {
 }
 
 /// What a line asks for.
-#[derive(Clone, Drop)]
+#[derive(Drop)]
 pub enum Order {
     /// Frames with these buttons, as in a script.
     Frames {
@@ -116,7 +116,7 @@ pub enum Order {
 }
 
 /// What a line asks for that takes memory, or goes back to what has taken some.
-#[derive(Clone, Drop)]
+#[derive(Drop)]
 pub enum StateOrder {
     /// The power switch, off and on.
     Power,

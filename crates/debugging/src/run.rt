@@ -108,7 +108,10 @@ impl Run {
     {
         let sent = match HeapCircularBuffer::with_capacity(alloc, MOST_SENT) {
             Ok(sent) => sent,
-            Err(fault) => return Err(fault),
+            Err(fault) => {
+                drop(machine);
+                return Err(fault);
+            }
         };
         match Debugger::new(alloc, machine, MOST_HISTORY) {
             Ok(debugger) => Ok(Run { debugger, sent }),
@@ -421,7 +424,14 @@ impl Run {
     {
         let Run { debugger, sent } = self;
         let (machine, mut executed) = debugger.into_parts();
-        let fresh = powered(alloc, cartridge, &machine)?;
+        let fresh = match powered(alloc, cartridge, &machine) {
+            Ok(fresh) => fresh,
+            Err(fault) => {
+                drop(machine);
+                return Err(fault);
+            }
+        };
+        drop(machine);
         executed.clear();
         Ok(Run {
             debugger: Debugger::from_parts(fresh, executed),

@@ -95,7 +95,10 @@ fn power<W: Output>(
     };
     match write_whole(out, b"done\n") {
         Ok(()) => Ok(run),
-        Err(_) => Err(DebugError::Output),
+        Err(_) => {
+            drop(run);
+            Err(DebugError::Output)
+        }
     }
 }
 
@@ -121,12 +124,16 @@ fn profile<W: Output>(
 {
     let rom = cartridge.rom().len();
     let Ok(mut counts) = CycleCounts::new(alloc, rom) else {
+        drop(run);
         return Err(DebugError::Memory);
     };
     let RunUntil { run, is_there } = run_counted(run, places, rom, steps, &mut counts);
     match write_profile(is_there, run.processor(), &counts, out) {
         Ok(()) => Ok(run),
-        Err(_) => Err(DebugError::Output),
+        Err(_) => {
+            drop(run);
+            Err(DebugError::Output)
+        }
     }
 }
 
@@ -175,11 +182,15 @@ fn keep<W: Output>(
     let machine = run.debugger().machine();
     let room = length(machine.region(Region::CartRam).len());
     if kept.keep(alloc, slot as usize, room, machine).is_err() {
+        drop(run);
         return Err(DebugError::Memory);
     }
     match write_count("kept", slot as usize, out) {
         Ok(()) => Ok(run),
-        Err(_) => Err(DebugError::Output),
+        Err(_) => {
+            drop(run);
+            Err(DebugError::Output)
+        }
     }
 }
 
@@ -207,7 +218,10 @@ fn back<W: Output>(
     let RunRestored { run, is_restored } = run.restore(cartridge, bytes);
     match write_back(is_restored, slot, number, out) {
         Ok(()) => Ok(run),
-        Err(_) => Err(DebugError::Output),
+        Err(_) => {
+            drop(run);
+            Err(DebugError::Output)
+        }
     }
 }
 

@@ -142,6 +142,7 @@ impl Game {
         ensures cause { IfErr result (λ why. why ≡ GameError.Memory) }
     {
         let Ok(noted) = session.device().calls().to_vec(alloc) else {
+            drop(session);
             return Err(GameError::Memory);
         };
         Ok(Game {
@@ -166,6 +167,7 @@ impl Game {
         ensures handed { IfOk result (λ g. g.handed ≡ written) }
     {
         if session.device().calls().len() < written {
+            drop(session);
             return Err(GameError::Session(SessionError::Broken));
         }
         Game::of(alloc, session, cartridge, written)
@@ -226,6 +228,7 @@ impl Game {
             Err(why) => return Err(import_fault(why)),
         };
         let Ok(device) = HostDevice::new(alloc, sectors) else {
+            drop(machine);
             return Err(GameError::Memory);
         };
         match new_game_from(alloc, device, &cartridge, machine) {

@@ -1,5 +1,5 @@
 -- The statuses of the program: 0 done, 1 refused, 2 words not understood.
-use Rattle.std.specs.Prelude.{◌≡◌, ◌≤◌, ◌↔◌, ◌≢◌, ◌⊎◌, ℕ, List, codes, Option, None, Some, Result, Ok, Err, ⊤, Bool, true, false}
+use Rattle.std.specs.Prelude.{◌≡◌, ◌≤◌, ◌↔◌, ◌≢◌, ◌⊎◌, ℕ, List, length, codes, Option, None, Some, Result, Ok, Err, ⊤, Bool, true, false}
 use Rattle.std.specs.Borrow.{Bor}
 use Rattle.std.specs.Io.KnownBytes.{Appends, Keeps}
 use Rattle.exact_text.specs.Written.{AppendsProperPrefix}
@@ -93,12 +93,13 @@ IsTestServed rom text frames (Err Memory) old new = IsTestRefused rom text frame
 IsTestServed rom text frames (Err Output) old new = IsTestRefused rom text frames old new TestOutput
 IsTestServed rom text frames (Err fault) old new = ⊥
 
--- why a battery file is not taken for this cartridge
-abbrev pub IsBatteryFault : (rom : List ℕ) → Fault → Type 0
-IsBatteryFault rom Memory = ⊤
-IsBatteryFault rom NoBattery = has_battery rom ≡ false
-IsBatteryFault rom (BatteryLength found needed) = (has_battery rom ≡ true) × (is_taken_length rom found ≡ false) × (needed ≡ ram_length_of rom)
-IsBatteryFault rom fault = ⊥
+-- why a battery file is not taken for this cartridge: no memory only where nothing is wrong with either
+abbrev pub IsBatteryFault : (rom battery : List ℕ) → Fault → Type 0
+IsBatteryFault rom battery Memory = (has_battery rom ≡ true) × (is_taken_length rom (length battery) ≡ true)
+IsBatteryFault rom battery NoBattery = has_battery rom ≡ false
+IsBatteryFault rom battery (BatteryLength found needed) =
+    (has_battery rom ≡ true) × (is_taken_length rom (length battery) ≡ false) × (found ≡ length battery) × (needed ≡ ram_length_of rom)
+IsBatteryFault rom battery fault = ⊥
 
 -- why the files of a game and its recording are not opened
 abbrev pub IsPairFault : Fault → Type 0

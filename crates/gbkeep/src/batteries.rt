@@ -109,7 +109,8 @@ pub(crate) fn import<R: Files<File = File> + AllocGlobal, O: Output>(
     }
     let MakingDevice { making, device } = new_device(rt, save, sectors)?;
     match begin_import(rt.alloc(), device, &cartridge, battery.as_slice()) {
-        Ok(_session) => {
+        Ok(session) => {
+            drop(session);
             unmark(rt, save);
             tell_begun(rt, making, out)
         }
@@ -123,10 +124,13 @@ pub(crate) fn import<R: Files<File = File> + AllocGlobal, O: Output>(
 /// Whether a battery file is taken for the cartridge, or why it is not.
 fn taken(alloc: Global, cartridge: &Cartridge, battery: &[u8]) -> Result<(), Fault>
     ensures ok { OnOk result (IsBatteryTaken cartridge.now) }
-    ensures err { IfErr result (IsBatteryFault cartridge.now) }
+    ensures err { IfErr result (IsBatteryFault cartridge.now battery.now) }
 {
     match machine_with_battery(alloc, cartridge, battery) {
-        Ok(_) => Ok(()),
+        Ok(machine) => {
+            drop(machine);
+            Ok(())
+        }
         Err(ImportError::NoBattery) => Err(Fault::NoBattery),
         Err(ImportError::Length { found, needed }) => Err(Fault::BatteryLength { found, needed }),
         Err(ImportError::Memory) => Err(Fault::Memory),

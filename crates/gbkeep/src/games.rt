@@ -40,7 +40,8 @@ pub(crate) fn new<R: Files<File = File> + AllocGlobal, O: Output>(
     }
     let MakingDevice { making, device } = new_device(rt, save, sectors)?;
     match new_game(rt.alloc(), device, &cartridge) {
-        Ok(_session) => {
+        Ok(session) => {
+            drop(session);
             unmark(rt, save);
             tell_begun(rt, making, out)
         }
@@ -80,7 +81,10 @@ pub(crate) fn play<R: Files<File = File> + AllocGlobal, O: Output>(
     unless_recorded(rt, save)?;
     let script = file_bytes(rt, script, MOST_SCRIPT)?;
     match play_script(rt.alloc(), device, rom, script.as_slice(), out) {
-        Ok(_session) => Ok(()),
+        Ok(session) => {
+            drop(session);
+            Ok(())
+        }
         Err(refused) => Err(Fault::from(refused.why)),
     }
 }

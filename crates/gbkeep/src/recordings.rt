@@ -96,7 +96,10 @@ pub(crate) fn record<R: Files<File = File> + AllocGlobal, I: LineInput, O: Outpu
         input,
         out,
     ) {
-        Ok(_left) => Ok(()),
+        Ok(game) => {
+            drop(game);
+            Ok(())
+        }
         Err(refused) => Err(match refused.why {
             RecordError::Session(why) => Fault::Session(why),
             RecordError::Recording(why) => Fault::Recording(why),

@@ -1,5 +1,5 @@
 -- Whether a SAVE and a recording agree, as `verify` answers it.
-use Rattle.std.specs.Prelude.{◌≡◌, ◌≢◌, ◌≤◌, ◌<◌, ◌+◌, ℕ, List, length, take, Option, None, Some, ⊤}
+use Rattle.std.specs.Prelude.{◌≡◌, ◌≢◌, ◌≤◌, ◌<◌, ℕ, List, length, take, Option, None, Some, ⊤}
 use Rattle.sha2.specs.Sha256.{sha256}
 use Rattle.machine.specs.Machine.{after, start}
 use Rattle.sector_device.specs.DiskState.{DiskState}

@@ -82,7 +82,10 @@ fn machine_after<D: SectorDevice>(
     };
     match replay(recording, &mut machine, count) {
         Ok(()) => Ok(machine),
-        Err(why) => Err(VerifyError::Recording(why)),
+        Err(why) => {
+            drop(machine);
+            Err(VerifyError::Recording(why))
+        }
     }
 }
 
@@ -116,13 +119,17 @@ fn compare<S: SectorDevice, D: SectorDevice>(
     if recorded < count {
         return Err(VerifyError::Behind(recorded));
     }
-    match machine_after(alloc, recording, count, cartridge) {
+    let same = {
+        let machine = match machine_after(alloc, recording, count, cartridge) {
+            Ok(machine) => machine,
+            Err(why) => return Err(why),
+        };
+        has_snapshot(alloc, &machine, look.snapshot())
+    };
+    match same {
+        Ok(true) => Ok(count),
+        Ok(false) => Err(VerifyError::Differ),
         Err(why) => Err(why),
-        Ok(machine) => match has_snapshot(alloc, &machine, look.snapshot()) {
-            Err(why) => Err(why),
-            Ok(true) => Ok(count),
-            Ok(false) => Err(VerifyError::Differ),
-        },
     }
 }
 

@@ -168,6 +168,7 @@ pub fn new_game_from<D: SectorDevice>(
         result }
 {
     let Ok(room) = make_room(alloc, cartridge) else {
+        drop(machine);
         return Err(Refused {
             why: SessionError::Memory,
             device,
@@ -175,10 +176,14 @@ pub fn new_game_from<D: SectorDevice>(
     };
     let opened = match open_log(alloc, device, 0) {
         Ok(opened) => opened,
-        Err(refused) => return Err(Refused {
-            why: fault_of(refused.why),
-            device: refused.device,
-        }),
+        Err(refused) => {
+            drop(machine);
+            drop(room);
+            return Err(Refused {
+                why: fault_of(refused.why),
+                device: refused.device,
+            });
+        }
     };
     begin_with(opened, cartridge, 0, machine, room)
 }
@@ -223,9 +228,14 @@ pub(crate) fn begin_with<D: SectorDevice>(
     encode(&machine, &mut encoded);
     match opened.begin(cartridge.digest(), count, &encoded) {
         Ok(store) => Ok(Session::at(store, machine, pending, encoded, count)),
-        Err(refused) => Err(Refused {
-            why: fault_of(refused.why),
-            device: refused.device,
-        }),
+        Err(refused) => {
+            drop(machine);
+            drop(pending);
+            drop(encoded);
+            Err(Refused {
+                why: fault_of(refused.why),
+                device: refused.device,
+            })
+        }
     }
 }

@@ -176,6 +176,7 @@ impl<D: SectorDevice> Look<D> {
             logged: _,
         } = self;
         let Ok(room) = room_with(alloc, snapshot) else {
+            drop(machine);
             return Err(Refused {
                 why: SessionError::Memory,
                 device: opened.into_device(),

@@ -120,6 +120,7 @@ fn rebuilt(
     match decode(alloc, encoded, cartridge) {
         Ok(mut machine) => {
             if let Err(why) = log_refusal(log, generation) {
+                drop(machine);
                 return Err(why);
             }
             let count = replay(&mut machine, log);

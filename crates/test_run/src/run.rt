@@ -187,8 +187,14 @@ fn switched(machine: Machine, alloc: Global, cartridge: &Cartridge) -> Result<We
     ensures kept { IfOk result (IsKeptBy machine) }
 {
     match powered(alloc, cartridge, &machine) {
-        Ok(fresh) => Ok(Went::On(fresh)),
-        Err(_) => Err(Stop::Memory),
+        Ok(fresh) => {
+            drop(machine);
+            Ok(Went::On(fresh))
+        }
+        Err(_) => {
+            drop(machine);
+            Err(Stop::Memory)
+        }
     }
 }
 

@@ -15,7 +15,7 @@ use Rattle.gbkeep.proofs.batteries.import.Goals as goal
 pub returns-in-Err-clause-served : goal.returns-in-Err-clause-served
 returns-in-Err-clause-served g c =
     let kept = keeps_same (g.O.Output.contents c.args.out.now) in
-    battery_refused c.in_ok-cartridge.cartridge (accepted_image _ _ c.in_ok-cartridge.ensures.image (c.in_ok-cartridge.ensures.accepted.0 refl))
+    battery_refused c.in_ok-cartridge.cartridge _ (accepted_image _ _ c.in_ok-cartridge.ensures.image (c.in_ok-cartridge.ensures.accepted.0 refl))
     c.args.cart c.args.battery c.args.save c.args.sectors _ _ kept c.in-Err.fault c.in-Err.ensures.err
 
 pub returns-in-Ok-clause-served : goal.returns-in-Ok-clause-served
@@ -26,7 +26,7 @@ returns-in-Ok-clause-served g c =
     let enough : need (snapshot_length (ram_length_of rom)) ≤ sectors_for rom c.args.sectors = omega (arith, same, c.sectors_needed-need.ensures, c.if-sectors-need.false) in
     let zero = c.in_ok-making.ensures.zero in
     let honest = c.in_ok-making.ensures.honest in
-    let begun = import_begun c.args.cart c.args.battery c.args.save c.args.sectors rom _ c.sectors_or-sectors.result c.in_ok-making.field-0.device (device_of c.in-Ok._session) enough
+    let begun = import_begun c.args.cart c.args.battery c.args.save c.args.sectors rom _ c.sectors_or-sectors.result c.in_ok-making.field-0.device (device_of c.in-Ok.session) enough
     zero same (c.in-Ok.ensures.begun honest) in
     begun_served (Import c.args.cart c.args.battery c.args.save c.args.sectors) _ _ tt tt
     (λ written. (rom, (accepted, begun, written))) (λ cut. (rom, accepted, begun, cut))

@@ -8,7 +8,7 @@ use Rattle.gbkeep.proofs.games.play.Goals as goal
 
 pub returns-in-Ok-clause-served : goal.returns-in-Ok-clause-served
 returns-in-Ok-clause-served g c =
-    (c.in_ok-rom.rom.items, (c.as_slice.result.now, (c.in_ok-device.device, device_of c.in-Ok._session, c.in-Ok.ensures.plays.played)))
+    (c.in_ok-rom.rom.items, (c.as_slice.result.now, (c.in_ok-device.device, device_of c.in-Ok.session, c.in-Ok.ensures.plays.played)))
 
 pub returns-clause-served : goal.returns-clause-served
 returns-clause-served g c =

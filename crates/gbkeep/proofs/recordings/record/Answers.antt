@@ -14,7 +14,7 @@ accepted_as rom image is accepted = subst (λ (r : List ℕ). IsAccepted r) (sym
 pub returns-in-Ok-record_play-clause-served : goal.returns-in-Ok-record_play-clause-served
 returns-in-Ok-record_play-clause-served g c =
     recorded_to c.in_ok-cartridge.cartridge (accepted_as _ _ c.in_ok-cartridge.ensures.image (c.in_ok-cartridge.ensures.accepted.0 refl)) c.in-Ok.pair.save
-    (device_of c.in-Ok-record_play._left.session) c.in-Ok.pair.recording (device_of_recording c.in-Ok-record_play._left.recording) _ _ _ _ _ c.in-Ok-record_play.ensures.recorded
+    (device_of c.in-Ok-record_play.game.session) c.in-Ok.pair.recording (device_of_recording c.in-Ok-record_play.game.recording) _ _ _ _ _ c.in-Ok-record_play.ensures.recorded
 
 pub returns-in-Err-clause-served : goal.returns-in-Err-clause-served
 returns-in-Err-clause-served g c =
