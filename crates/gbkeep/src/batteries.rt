@@ -109,8 +109,8 @@ pub(crate) fn import<R: Files<File = File> + AllocGlobal, O: Output>(
     }
     let MakingDevice { making, device } = new_device(rt, save, sectors)?;
     match begin_import(rt.alloc(), device, &cartridge, battery.as_slice()) {
-        Ok(session) => {
-            drop(session);
+        // it holds the file's lock until the file has its name
+        Ok(_session) => {
             unmark(rt, save);
             tell_begun(rt, making, out)
         }

@@ -40,8 +40,8 @@ pub(crate) fn new<R: Files<File = File> + AllocGlobal, O: Output>(
     }
     let MakingDevice { making, device } = new_device(rt, save, sectors)?;
     match new_game(rt.alloc(), device, &cartridge) {
-        Ok(session) => {
-            drop(session);
+        // it holds the file's lock until the file has its name
+        Ok(_session) => {
             unmark(rt, save);
             tell_begun(rt, making, out)
         }

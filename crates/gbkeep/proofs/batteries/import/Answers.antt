@@ -26,7 +26,7 @@ returns-in-Ok-clause-served g c =
     let enough : need (snapshot_length (ram_length_of rom)) ≤ sectors_for rom c.args.sectors = omega (arith, same, c.sectors_needed-need.ensures, c.if-sectors-need.false) in
     let zero = c.in_ok-making.ensures.zero in
     let honest = c.in_ok-making.ensures.honest in
-    let begun = import_begun c.args.cart c.args.battery c.args.save c.args.sectors rom _ c.sectors_or-sectors.result c.in_ok-making.field-0.device (device_of c.in-Ok.session) enough
+    let begun = import_begun c.args.cart c.args.battery c.args.save c.args.sectors rom _ c.sectors_or-sectors.result c.in_ok-making.field-0.device (device_of c.in-Ok._session) enough
     zero same (c.in-Ok.ensures.begun honest) in
     begun_served (Import c.args.cart c.args.battery c.args.save c.args.sectors) _ _ tt tt
     (λ written. (rom, (accepted, begun, written))) (λ cut. (rom, accepted, begun, cut))
