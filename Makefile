@@ -209,8 +209,10 @@ test:
 	python3 -B scripts/no_memory.py
 	python3 -B scripts/no_memory.py --try
 	python3 -B scripts/edits.py --apply
+# what tells the cost of a command ends as the command does
+	! python3 -B scripts/gate_cost.py false > /dev/null
 # a proof by one process: each more reads its libraries again
-	RT_JOBS=$$(python3 -B -c 'from scripts.build import jobs; print(jobs())') $(RT) ci
+	RT_JOBS=$$(python3 -B -c 'from scripts.build import jobs; print(jobs())') python3 -B scripts/gate_cost.py $(RT) ci
 	python3 -B scripts/program_tests/run.py $(PROGRAM)/out/gbkeep_program
 	$(PIL_PYTHON) -B scripts/front_door.py $(PROGRAM)/out/gbkeep_program
 	$(PIL_PYTHON) -B python/gbkeep_tests/test_players.py $(PROGRAM)/out/gbkeep_program
