@@ -1,5 +1,5 @@
 -- The numbers that refusals have in C.
-use Rattle.std.specs.Prelude.{◌≡◌, ℕ, List, ⊤, ◌⊎◌, Some}
+use Rattle.std.specs.Prelude.{Bool, ◌≡◌, ℕ, List, ⊤, ◌⊎◌, Some}
 use Rattle.cartridge.specs.Accepted.{refusal_of}
 use Rattle.cartridge.specs.declared.error.CartError.{CartError}
 use Rattle.cartridge.specs.declared.error.CartError.TheVariants.{Length, Kind, RamCode, TooManyBanks}
@@ -12,7 +12,7 @@ use Rattle.session.specs.declared.error.SessionError.{SessionError}
 use Rattle.session.specs.declared.error.SessionError.TheVariants as session
 use Rattle.embedding.specs.declared.error.GameError.{GameError}
 use Rattle.embedding.specs.declared.error.GameError.TheVariants as game
-use Rattle.embedding.specs.Games.{IsBatteryCause, IsImportCause}
+use Rattle.embedding.specs.Games.{IsBatteryCause, IsBeginCause, IsImportCause, IsSaveCause, IsTakeUpCause}
 use Rattle.embedding.specs.Orders.{IsNewCause, IsRestoreCause}
 use Rattle.embedding.specs.declared.error.ConsoleError.{ConsoleError}
 use Rattle.embedding.specs.declared.error.ConsoleError.TheVariants.{Memory, Cart, Snapshot}
@@ -103,8 +103,17 @@ pub record HasGameCode (code : ℕ) (Cause : GameError → Type 0) : Type 0 wher
   pub cause : Cause why
   pub is : code ≡ game_code why
 
+abbrev pub IsBegunCode : (rom : List ℕ) → (sectors : ℕ) → ℕ → Type 0
+IsBegunCode rom sectors code = (code ≡ done) ⊎ HasGameCode code (IsBeginCause rom sectors)
+
 abbrev pub IsImportedCode : (rom battery : List ℕ) → (sectors : ℕ) → ℕ → Type 0
 IsImportedCode rom battery sectors code = (code ≡ done) ⊎ HasGameCode code (IsImportCause rom battery sectors)
+
+abbrev pub IsTakenUpCode : (rom image : List ℕ) → ℕ → Type 0
+IsTakenUpCode rom image code = (code ≡ done) ⊎ HasGameCode code (IsTakeUpCause rom image)
+
+abbrev pub IsSaveCode : (broken fits : Bool) → (generation : ℕ) → ℕ → Type 0
+IsSaveCode broken fits generation code = (code ≡ done) ⊎ HasGameCode code (IsSaveCause broken fits generation)
 
 abbrev pub IsBatteryCode : (rom : List ℕ) → ℕ → Type 0
 IsBatteryCode rom code = (code ≡ done) ⊎ HasGameCode code (IsBatteryCause rom)

@@ -6,7 +6,8 @@ ghost use Rattle.machine.specs.Machine.{Frame, Seconds, Power, State, start, app
 ghost use Rattle.snapshot.specs.Encoding.{encoded, snapshot_length};
 ghost use Rattle.log_format.specs.Content.{content, need};
 ghost use Rattle.sector_device.specs.Runs.{HoldsSince};
-ghost use Rattle.session.specs.Accessors.{device_of, machine_of, rom_of, pending_of, acknowledged_of, is_broken, IsUnchanged};
+ghost use Rattle.session.specs.Accessors.{device_of, generation_in_use, log_in, machine_of, rom_of, pending_of, acknowledged_of, is_broken, IsUnchanged};
+ghost use Rattle.session.specs.Calls.{fits_log};
 ghost use Rattle.session.specs.Stands.{IsAtRest, stands, StandsBetween};
 ghost use Rattle.session.specs.Inputs.{can_be_logged, entry_of, inputs_of};
 ghost use Rattle.battery_files.specs.Battery.{battery_length, battery_of};
@@ -15,7 +16,7 @@ ghost use Rattle.embedding.specs.Orders.{shades_of};
 ghost use Rattle.embedding.specs.Games.{IsFrom, IsTaken};
 ghost use Rattle.embedding.specs.HostDevices.{calls_of, host_disk};
 ghost use Rattle.embedding.specs.declared.host_device.Call.TheVariants.{Write, Sync};
-ghost use Rattle.c_interface.specs.Codes.{done, no_call, a_write, a_sync, IsBatteryCode, IsImportedCode};
+ghost use Rattle.c_interface.specs.Codes.{done, no_call, a_write, a_sync, IsBatteryCode, IsBegunCode, IsImportedCode, IsSaveCode, IsTakenUpCode};
 
 use crate::codes::{DONE, NO_MEMORY, game_code, session_code};
 use crate::session_handle::SessionHandle;
@@ -79,6 +80,7 @@ pub extern "C" fn gbkeep_begin_session(
         IsAtRest rom.now (host_disk (device_of out.new.value.session)) 0 [] (start rom.now) }
     ensures step { result ≡ done → out.new.value.in_step ≡ true }
     ensures first { result ≡ done → out.new.value.handed ≡ 0 }
+    ensures code { IsBegunCode rom.now sectors result }
 {
     let game = match Game::begin(alloc, rom, sectors) {
         Ok(game) => game,
@@ -142,6 +144,7 @@ pub extern "C" fn gbkeep_resume_session(
     ensures step { result ≡ done → out.new.value.in_step ≡ true }
     ensures from { result ≡ done →
         IsFrom rom.now image.now (acknowledged_of out.new.value.session) (machine_of out.new.value.session) }
+    ensures code { IsTakenUpCode rom.now image.now result }
 {
     let game = match Game::resume(alloc, rom, image) {
         Ok(game) => game,
@@ -295,6 +298,9 @@ pub extern "C" fn gbkeep_save_session(
         })) }
     ensures machine { (machine_of out.new.value.session ≡ machine_of session.value.session) ×
         (rom_of out.new.value.session ≡ rom_of session.value.session) }
+    ensures code { IsSaveCode (is_broken session.value.session)
+        (fits_log (log_in session.value.session) (pending_of session.value.session))
+        (generation_in_use session.value.session) result }
 {
     let mut game = session.into_box();
     let code = match game.save() {

@@ -1,11 +1,14 @@
 -- The game that is taken up from an image of a device, and the one that begins with a battery file.
-use Rattle.std.specs.Prelude.{◌≡◌, ◌<◌, ◌+◌, ◌*◌, ℕ, List, length, slice_range, Some, true, false, ⊤}
+use Rattle.std.specs.Prelude.{◌≡◌, ◌≢◌, ◌<◌, ◌+◌, ◌*◌, ◌%◌, ◌⊎◌, ℕ, Bool, List, length, slice_range, Some, true, false, ⊤}
 use Rattle.cartridge.specs.Accepted.{IsAccepted, refusal_of}
 use Rattle.cartridge.specs.Header.{has_battery, ram_length_of}
 use Rattle.machine.specs.Machine.{MachineState}
 use Rattle.sector_device.specs.DiskState.{sector_at}
-use Rattle.log_format.specs.Content.{content}
-use Rattle.session.specs.Found.{IsNewGameCause}
+use Rattle.log_format.specs.Content.{content, generation_in}
+use Rattle.session.specs.Calls.{IsSaveCause as IsSessionSaveCause}
+use Rattle.session.specs.Found.{IsNewGameCause, IsResumeCause}
+use Rattle.session.specs.declared.error.SessionError.{SessionError}
+use Rattle.session.specs.declared.error.SessionError.TheVariants.{Broken}
 use Rattle.session.specs.Stands.{stands}
 use Rattle.snapshot.specs.Encoding.{snapshot_length}
 use Rattle.battery_files.specs.Importing.{is_taken_length}
@@ -31,6 +34,29 @@ IsCartCause rom Memory = ⊤
 IsCartCause rom (Cart fault) = refusal_of rom ≡ Some fault
 IsCartCause rom why = ⊥
 
+-- Why no game begins at power-on on a device of so many sectors: the first rule of a cartridge that the image breaks; why no new game begins.
+-- Nothing is said of running out of memory.
+abbrev pub IsBeginCause : (rom : List ℕ) → (sectors : ℕ) → GameError → Type 0
+IsBeginCause rom sectors Memory = ⊤
+IsBeginCause rom sectors (Cart fault) = refusal_of rom ≡ Some fault
+IsBeginCause rom sectors (Session why) = IsAccepted rom × IsNewGameCause (snapshot_length (ram_length_of rom)) sectors why
+IsBeginCause rom sectors why = ⊥
+
+-- the sectors of the image are this reason why no game is taken up
+pub record IsRefusedFrom (rom image : List ℕ) (why : SessionError) : Type 0 where
+  pub sectors : List (List ℕ)
+  pub are : AreSectorsOf image sectors
+  pub cause : IsResumeCause rom (generation_in sectors) (content sectors) why
+
+-- Why no game is taken up from an image: it is not whole sectors; the first rule of a cartridge that the ROM breaks; why its sectors are not
+-- taken up; or a device that has lost a call. Nothing is said of running out of memory.
+abbrev pub IsTakeUpCause : (rom image : List ℕ) → GameError → Type 0
+IsTakeUpCause rom image Memory = ⊤
+IsTakeUpCause rom image (Size bytes) = (bytes ≡ length image) × (length image % 512 ≢ 0)
+IsTakeUpCause rom image (Cart fault) = (length image % 512 ≡ 0) × (refusal_of rom ≡ Some fault)
+IsTakeUpCause rom image (Session why) = IsAccepted rom × (IsRefusedFrom rom image why ⊎ (why ≡ Broken))
+IsTakeUpCause rom image why = ⊥
+
 -- the image is a cartridge, and the battery file is one that it takes
 abbrev pub IsTaken : (rom battery : List ℕ) → Type 0
 IsTaken rom battery = IsAccepted rom × (has_battery rom ≡ true) × (is_taken_length rom (length battery) ≡ true)
@@ -45,6 +71,12 @@ IsImportCause rom battery sectors (BatteryLength found needed) =
     IsAccepted rom × (has_battery rom ≡ true) × (is_taken_length rom (length battery) ≡ false) × (found ≡ length battery) × (needed ≡ ram_length_of rom)
 IsImportCause rom battery sectors (Size bytes) = ⊥
 IsImportCause rom battery sectors (Session why) = IsTaken rom battery × IsNewGameCause (snapshot_length (ram_length_of rom)) sectors why
+
+-- why no save is told: as of the session; or a device that has lost a call. Nothing is said of running out of memory.
+abbrev pub IsSaveCause : (broken fits : Bool) → (generation : ℕ) → GameError → Type 0
+IsSaveCause broken fits generation Memory = ⊤
+IsSaveCause broken fits generation (Session why) = IsSessionSaveCause why broken fits generation ⊎ (why ≡ Broken)
+IsSaveCause broken fits generation why = ⊥
 
 -- why a game gives no battery file: a cartridge without battery; and want of memory only where it has one
 abbrev pub IsBatteryCause : (rom : List ℕ) → GameError → Type 0

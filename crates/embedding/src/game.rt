@@ -1,6 +1,6 @@
 //! A game whose disk is the host's: it hands out the calls that the host has to make.
 
-ghost use Rattle.std.specs.Prelude.{◌≡◌, ◌≤◌, ◌<◌, ◌+◌, ◌*◌, ◌++◌, ◌∷◌, [], true, false, ℕ, List, length, take, slice_get, slice_range, Some, None, Ok, IfOk, IfErr, IfSome, IfNone, OnOk, OnErr};
+ghost use Rattle.std.specs.Prelude.{◌≡◌, ◌≤◌, ◌<◌, ◌+◌, ◌*◌, ◌++◌, ◌∷◌, ◌⊎◌, [], true, false, ℕ, List, length, take, slice_get, slice_range, Some, None, Ok, IfOk, IfErr, IfSome, IfNone, OnOk, OnErr};
 ghost use Rattle.cartridge.specs.Accepted.{IsAccepted, refusal_of};
 ghost use Rattle.cartridge.specs.Header.{has_battery, ram_length_of};
 ghost use Rattle.machine.specs.Machine.{Power, State, start, as_input, applied, picture_rows};
@@ -8,14 +8,14 @@ ghost use Rattle.snapshot.specs.Encoding.{encoded, snapshot_length};
 ghost use Rattle.sector_device.specs.DiskState.{sector_at};
 ghost use Rattle.sector_device.specs.Runs.{HoldsSince};
 ghost use Rattle.log_format.specs.Content.{content, need};
-ghost use Rattle.session.specs.Accessors.{device_of, machine_of, rom_of, pending_of, acknowledged_of, is_broken, IsUnchanged};
-ghost use Rattle.session.specs.Calls.{IsRestoreAnswer, input_answer};
+ghost use Rattle.session.specs.Accessors.{device_of, generation_in_use, log_in, machine_of, rom_of, pending_of, acknowledged_of, is_broken, IsUnchanged};
+ghost use Rattle.session.specs.Calls.{IsRestoreAnswer, fits_log, input_answer};
 ghost use Rattle.session.specs.Stands.{IsAtRest, stands, StandsBetween};
 ghost use Rattle.session.specs.Inputs.{can_be_logged, entry_of, inputs_of};
 ghost use Rattle.battery_files.specs.Battery.{battery_length, battery_of};
 ghost use Rattle.battery_files.specs.Importing.{IsImportCause as IsFileCause, start_with};
 ghost use Rattle.embedding.specs.Orders.{shades_of};
-ghost use Rattle.embedding.specs.Games.{IsBatteryCause, IsCartCause, IsFrom, IsImportCause, IsTaken};
+ghost use Rattle.embedding.specs.Games.{IsBatteryCause, IsBeginCause, IsCartCause, IsFrom, IsImportCause, IsSaveCause, IsTakeUpCause, IsTaken};
 ghost use Rattle.embedding.specs.HostDevices.{calls_of, count_of, host_disk};
 
 use crate::error::GameError;
@@ -76,7 +76,8 @@ fn import_fault(why: ImportError) -> GameError
 ///
 /// Refusals: `Memory`, `Cart`.
 pub fn sectors_of(alloc: Global, rom: &[u8]) -> Result<u64, GameError>
-    ensures { IfOk result (λ sectors. sectors ≡ need (snapshot_length (ram_length_of rom.now))) }
+    ensures need { IfOk result (λ sectors. sectors ≡ need (snapshot_length (ram_length_of rom.now))) }
+    ensures cause { IfErr result (IsCartCause rom.now) }
 {
     let cartridge = match read_cartridge(alloc, rom) {
         Ok(cartridge) => cartridge,
@@ -111,6 +112,7 @@ fn write_image(device: &mut HostDevice, image: &[u8]) -> Result<(), GameError>
     ensures sectors { OnOk result ((k : ℕ) → k < count_of device.old →
         sector_at (host_disk device.new).sectors k ≡ slice_range image.now (512 * k) (512 * k + 512)) }
     ensures count { count_of device.new ≡ count_of device.old }
+    ensures cause { IfErr result (λ why. why ≡ GameError.Memory) }
 {
     let mut sector = [0; 512];
     for at in 0..device.count() {
@@ -165,6 +167,7 @@ impl Game {
         ensures session { IfOk result (λ g. g.session ≡ session) }
         ensures step { IfOk result (λ g. g.in_step ≡ true) }
         ensures handed { IfOk result (λ g. g.handed ≡ written) }
+        ensures cause { IfErr result (λ why. (why ≡ GameError.Memory) ⊎ (why ≡ GameError.Session SessionError.Broken)) }
     {
         if session.device().calls().len() < written {
             drop(session);
@@ -181,6 +184,7 @@ impl Game {
             (acknowledged_of g.session ≡ 0) × (pending_of g.session ≡ []) × (is_broken g.session ≡ false)) }
         ensures machine { IfOk result (λ g. (machine_of g.session ≡ start rom.now) × (rom_of g.session ≡ rom.now)) }
         ensures rests { IfOk result (λ g. IsAtRest rom.now (host_disk (device_of g.session)) 0 [] (start rom.now)) }
+        ensures cause { IfErr result (IsBeginCause rom.now sectors) }
         ensures step { IfOk result (λ g. g.in_step ≡ true) }
         ensures first { IfOk result (λ g. g.handed ≡ 0) }
     {
@@ -311,6 +315,8 @@ impl Game {
         ensures all { IfOk result (λ all.
             (all ≡ acknowledged_of self.old.session + length (pending_of self.old.session)) ×
             (acknowledged_of self.new.session ≡ all) × (pending_of self.new.session ≡ [])) }
+        ensures cause { IfErr result (IsSaveCause (is_broken self.old.session)
+            (fits_log (log_in self.old.session) (pending_of self.old.session)) (generation_in_use self.old.session)) }
         ensures rests { IfOk result (λ all.
             IsAtRest (rom_of self.old.session) (host_disk (device_of self.new.session)) all []
             (machine_of self.old.session)) }
@@ -443,6 +449,7 @@ impl Game {
             IsAtRest rom.now (host_disk (device_of g.session)) (acknowledged_of g.session) [] (machine_of g.session)) }
         ensures step { IfOk result (λ g. g.in_step ≡ true) }
         ensures from { IfOk result (λ g. IsFrom rom.now image.now (acknowledged_of g.session) (machine_of g.session)) }
+        ensures cause { IfErr result (IsTakeUpCause rom.now image.now) }
     {
         if image.len() % 512 != 0 {
             return Err(GameError::Size(image.len() as u64));

@@ -2,7 +2,8 @@ use Rattle.std.proofs.Common.{◌≡◌, ◌∙◌, ℕ, List, [], false, sym, a
 use Rattle.machine.specs.Machine.{start}
 use Rattle.session.specs.Accessors.{device_of, machine_of, rom_of, pending_of, acknowledged_of, is_broken}
 use Rattle.session.specs.Stands.{IsAtRest}
-use Rattle.session.proofs.Beginnings.{if_ok}
+use Rattle.session.proofs.Beginnings.{if_err, if_ok}
+use Rattle.embedding.specs.Games.{IsBeginCause}
 use Rattle.embedding.specs.HostDevices.{host_disk}
 use Rattle.embedding.proofs.game.Game.begin.Goals as goal
 
@@ -23,3 +24,7 @@ returns-in-Ok-new_game-clause-rests c =
     if_ok c.of.result c.of.ensures.session
     (λ g is. subst (λ s. IsAtRest c.args.rom.now (host_disk (device_of s)) 0 [] (start c.args.rom.now)) (sym is)
     (subst (λ (rom : List ℕ). IsAtRest rom (host_disk (device_of c.in-Ok-new_game.session)) 0 [] (start rom)) c.in-Ok.ensures.image (c.in-Ok-new_game.ensures.rests tt)))
+
+pub returns-in-Ok-new_game-clause-cause : goal.returns-in-Ok-new_game-clause-cause
+returns-in-Ok-new_game-clause-cause c =
+    if_err c.of.result c.of.ensures.cause (λ why is. subst (IsBeginCause c.args.rom.now c.args.sectors) (sym is) tt)
