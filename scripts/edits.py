@@ -26,6 +26,7 @@ AT_PLACE = re.compile(r"(?:\./)?(\S+?):\d+:\d+: error(?:\[[\w-]+\])?: (.*)")
 OPEN_GOAL = re.compile(r"note: (src/\S+:\d+):\d+: (it is not proved that .*)")
 FUNCTION = re.compile(r"fn [^:\s]+::(\S+): (not proved|no proof: .*)")
 IS_GONE = re.compile(r"has no `|has no field|is not in scope|is no name")
+CLAUSE = re.compile(r"`(\S+?)-clause-\S+`")
 UNCOVERED = re.compile(r"the borrow checker does not cover")
 UNPROVED = re.compile(r"`[\w-]+`: `search`: no proof of |`[\w-]+-value`: (as printed|computed), ")
 FOLLOWS = re.compile(r"which was (?:rejected|not admitted)|no proof: it calls")
@@ -87,7 +88,7 @@ def edited(edit, crate):
 
 def open_goal(said):
     """Returns the first goal that stays open in what `rt check` said, as `function: goal`."""
-    refused, gone, goals, notes, first = {}, {}, [], [], None
+    refused, gone, exits, goals, notes, first = {}, {}, {}, [], [], None
     for line in said.splitlines():
         error, note, function = AT_PLACE.match(line), OPEN_GOAL.match(line), FUNCTION.match(line)
         if error:
@@ -100,6 +101,7 @@ def open_goal(said):
             folder = os.path.dirname(path).removeprefix("proofs").lstrip("/")
             if IS_GONE.search(what):
                 gone.setdefault(folder, what)
+                exits.setdefault(folder, set()).update(CLAUSE.findall(what)[:1])
             elif not FOLLOWS.search(what):
                 refused.setdefault(folder, what)
         elif note:
@@ -112,6 +114,9 @@ def open_goal(said):
             if not FOLLOWS.search(why) and folder not in gone:
                 what = notes[0] if notes else refused.get(folder) or why
                 goals.append(f"{name}: {what}")
+            # where an answer names what is gone, its exit is still there, and another clause of it is open
+            elif folder in gone:
+                goals += [f"{name}: {note}" for note in notes if exits[folder].intersection(CLAUSE.findall(note))]
             notes = []
     if goals:
         return goals[0]
