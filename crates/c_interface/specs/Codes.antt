@@ -1,5 +1,5 @@
 -- The numbers that refusals have in C.
-use Rattle.std.specs.Prelude.{Bool, ◌≡◌, ℕ, List, ⊤, ◌⊎◌, Some}
+use Rattle.std.specs.Prelude.{◌≡◌, ℕ, List, ⊤, ◌⊎◌, Some}
 use Rattle.cartridge.specs.Accepted.{refusal_of}
 use Rattle.cartridge.specs.declared.error.CartError.{CartError}
 use Rattle.cartridge.specs.declared.error.CartError.TheVariants.{Length, Kind, RamCode, TooManyBanks}
@@ -10,6 +10,10 @@ use Rattle.session.specs.declared.error.Damage.{Damage}
 use Rattle.session.specs.declared.error.Damage.TheVariants as damage
 use Rattle.session.specs.declared.error.SessionError.{SessionError}
 use Rattle.session.specs.declared.error.SessionError.TheVariants as session
+use Rattle.sector_device.specs.declared.device.SectorDevice.{Ghosts}
+use Rattle.session.specs.declared.session.Session.{Session}
+use Rattle.embedding.specs.declared.host_device.Call.{Call}
+use Rattle.embedding.specs.declared.host_device.HostDevice.{HostDevice}
 use Rattle.embedding.specs.declared.error.GameError.{GameError}
 use Rattle.embedding.specs.declared.error.GameError.TheVariants as game
 use Rattle.embedding.specs.Games.{IsBatteryCause, IsBeginCause, IsImportCause, IsSaveCause, IsTakeUpCause}
@@ -112,8 +116,8 @@ IsImportedCode rom battery sectors code = (code ≡ done) ⊎ HasGameCode code (
 abbrev pub IsTakenUpCode : (rom image : List ℕ) → ℕ → Type 0
 IsTakenUpCode rom image code = (code ≡ done) ⊎ HasGameCode code (IsTakeUpCause rom image)
 
-abbrev pub IsSaveCode : (broken fits : Bool) → (generation : ℕ) → ℕ → Type 0
-IsSaveCode broken fits generation code = (code ≡ done) ⊎ HasGameCode code (IsSaveCause broken fits generation)
+abbrev pub IsSaveCode : {disk : Ghosts HostDevice} → (old new : Session HostDevice disk) → (noted : List Call) → ℕ → Type 0
+IsSaveCode old new noted code = (code ≡ done) ⊎ HasGameCode code (IsSaveCause old new noted)
 
 abbrev pub IsBatteryCode : (rom : List ℕ) → ℕ → Type 0
 IsBatteryCode rom code = (code ≡ done) ⊎ HasGameCode code (IsBatteryCause rom)

@@ -6,8 +6,7 @@ ghost use Rattle.machine.specs.Machine.{Frame, Seconds, Power, State, start, app
 ghost use Rattle.snapshot.specs.Encoding.{encoded, snapshot_length};
 ghost use Rattle.log_format.specs.Content.{content, need};
 ghost use Rattle.sector_device.specs.Runs.{HoldsSince};
-ghost use Rattle.session.specs.Accessors.{device_of, generation_in_use, log_in, machine_of, rom_of, pending_of, acknowledged_of, is_broken, IsUnchanged};
-ghost use Rattle.session.specs.Calls.{fits_log};
+ghost use Rattle.session.specs.Accessors.{device_of, machine_of, rom_of, pending_of, acknowledged_of, is_broken, IsUnchanged};
 ghost use Rattle.session.specs.Stands.{IsAtRest, stands, StandsBetween};
 ghost use Rattle.session.specs.Inputs.{can_be_logged, entry_of, inputs_of};
 ghost use Rattle.battery_files.specs.Battery.{battery_length, battery_of};
@@ -298,9 +297,7 @@ pub extern "C" fn gbkeep_save_session(
         })) }
     ensures machine { (machine_of out.new.value.session ≡ machine_of session.value.session) ×
         (rom_of out.new.value.session ≡ rom_of session.value.session) }
-    ensures code { IsSaveCode (is_broken session.value.session)
-        (fits_log (log_in session.value.session) (pending_of session.value.session))
-        (generation_in_use session.value.session) result }
+    ensures code { IsSaveCode session.value.session out.new.value.session session.value.noted.items result }
 {
     let mut game = session.into_box();
     let code = match game.save() {

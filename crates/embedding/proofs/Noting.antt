@@ -5,8 +5,7 @@ use Rattle.std.proofs.lemmas.List.{map-append, length-replicate}
 use Rattle.sector_device.specs.DiskState.{HasWritten, HasSynced}
 use Rattle.sector_device.specs.Records.{replayed, recorded_disk, reads_after, is_sector, is_recordable, are_recordable}
 use Rattle.sector_device.specs.declared.recorded.Recorded.{Recorded}
-use Rattle.sector_device.specs.declared.recorded.Recorded.TheVariants as recorded
-use Rattle.sector_device.proofs.Record.{replays, wrote, synced, no_write, no_sync}
+use Rattle.sector_device.proofs.Record.{replays, wrote, synced, no_write}
 use Rattle.sector_device.proofs.Calls.{recordable_push}
 use Rattle.embedding.specs.Calls.{blank, made, recorded_of, disk_after}
 use Rattle.embedding.specs.HostDevices.{calls_of, count_of, host_disk}

@@ -1,5 +1,5 @@
 -- Calls are equal where their comparison says so.
-use Rattle.std.proofs.Common.{◌≡◌, ℕ, List, Bool, true, false, refl, sym, ap, ◌∙◌, subst, eqb-true, eq-eqb}
+use Rattle.std.proofs.Common.{◌≡◌, ℕ, List, Bool, true, refl, ap, ◌∙◌, subst, eqb-true, eq-eqb}
 use Rattle.std.specs.Prelude.{◌&&◌, ◌==◌}
 use Rattle.std.specs.Prelude.{Decides}
 use Rattle.std.specs.Cmp.{unsigned_Decides}

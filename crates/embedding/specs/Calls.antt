@@ -1,5 +1,5 @@
 -- The calls that a host has to make, as a record of a device.
-use Rattle.std.specs.Prelude.{◌≡◌, ℕ, zero, suc, List, [], ◌∷◌, ◌&&◌, map, replicate, refl, IsTrue, true}
+use Rattle.std.specs.Prelude.{ℕ, zero, suc, List, ◌&&◌, map, replicate, refl, IsTrue, true}
 use Rattle.std.proofs.Common.{ap, ◌∙◌}
 use Rattle.sector_device.specs.DiskState.{DiskState}
 use Rattle.sector_device.specs.Records.{recorded_disk, is_sector, are_sectors}

@@ -1,19 +1,25 @@
 -- The game that is taken up from an image of a device, and the one that begins with a battery file.
-use Rattle.std.specs.Prelude.{◌≡◌, ◌≢◌, ◌<◌, ◌+◌, ◌*◌, ◌%◌, ◌⊎◌, ℕ, Bool, List, length, slice_range, Some, true, false, ⊤}
+use Rattle.std.specs.Prelude.{◌≡◌, ◌≢◌, ◌<◌, ◌+◌, ◌*◌, ◌%◌, ◌⊎◌, ℕ, List, length, take, slice_range, Some, true, false, ⊤}
 use Rattle.cartridge.specs.Accepted.{IsAccepted, refusal_of}
 use Rattle.cartridge.specs.Header.{has_battery, ram_length_of}
 use Rattle.machine.specs.Machine.{MachineState}
-use Rattle.sector_device.specs.DiskState.{sector_at}
+use Rattle.sector_device.specs.DiskState.{sector_at, next_count}
+use Rattle.sector_device.specs.declared.device.SectorDevice.{Ghosts}
 use Rattle.log_format.specs.Content.{content, generation_in}
-use Rattle.session.specs.Calls.{IsSaveCause as IsSessionSaveCause}
+use Rattle.session.specs.Accessors.{device_of, log_in, pending_of, is_broken, generation_in_use}
+use Rattle.session.specs.Calls.{IsSaveCause as IsSessionSaveCause, fits_log}
 use Rattle.session.specs.Found.{IsNewGameCause, IsResumeCause}
 use Rattle.session.specs.declared.error.SessionError.{SessionError}
-use Rattle.session.specs.declared.error.SessionError.TheVariants.{Broken}
+use Rattle.session.specs.declared.session.Session as TheSession
+use Rattle.session.specs.declared.error.SessionError.TheVariants.{Broken, Device}
 use Rattle.session.specs.Stands.{stands}
 use Rattle.snapshot.specs.Encoding.{snapshot_length}
 use Rattle.battery_files.specs.Importing.{is_taken_length}
+use Rattle.embedding.specs.HostDevices.{calls_of, host_disk}
 use Rattle.embedding.specs.declared.error.GameError.{GameError}
 use Rattle.embedding.specs.declared.error.GameError.TheVariants.{Memory, Cart, NoBattery, BatteryLength, Size, Session}
+use Rattle.embedding.specs.declared.host_device.Call.{Call}
+use Rattle.embedding.specs.declared.host_device.HostDevice.{HostDevice}
 
 -- these sectors are the bytes of an image, 512 each
 pub record AreSectorsOf (image : List ℕ) (sectors : List (List ℕ)) : Type 0 where
@@ -49,12 +55,12 @@ pub record IsRefusedFrom (rom image : List ℕ) (why : SessionError) : Type 0 wh
   pub cause : IsResumeCause rom (generation_in sectors) (content sectors) why
 
 -- Why no game is taken up from an image: it is not whole sectors; the first rule of a cartridge that the ROM breaks; why its sectors are not
--- taken up; or a device that has lost a call. Nothing is said of running out of memory.
+-- taken up. Nothing is said of running out of memory.
 abbrev pub IsTakeUpCause : (rom image : List ℕ) → GameError → Type 0
 IsTakeUpCause rom image Memory = ⊤
 IsTakeUpCause rom image (Size bytes) = (bytes ≡ length image) × (length image % 512 ≢ 0)
 IsTakeUpCause rom image (Cart fault) = (length image % 512 ≡ 0) × (refusal_of rom ≡ Some fault)
-IsTakeUpCause rom image (Session why) = IsAccepted rom × (IsRefusedFrom rom image why ⊎ (why ≡ Broken))
+IsTakeUpCause rom image (Session why) = IsAccepted rom × IsRefusedFrom rom image why
 IsTakeUpCause rom image why = ⊥
 
 -- the image is a cartridge, and the battery file is one that it takes
@@ -72,11 +78,19 @@ IsImportCause rom battery sectors (BatteryLength found needed) =
 IsImportCause rom battery sectors (Size bytes) = ⊥
 IsImportCause rom battery sectors (Session why) = IsTaken rom battery × IsNewGameCause (snapshot_length (ram_length_of rom)) sectors why
 
--- why no save is told: as of the session; or a device that has lost a call. Nothing is said of running out of memory.
-abbrev pub IsSaveCause : (broken fits : Bool) → (generation : ℕ) → GameError → Type 0
-IsSaveCause broken fits generation Memory = ⊤
-IsSaveCause broken fits generation (Session why) = IsSessionSaveCause why broken fits generation ⊎ (why ≡ Broken)
-IsSaveCause broken fits generation why = ⊥
+module _ {disk : Ghosts HostDevice} where
+  -- why a session does not save; `Device` stands for one more call of the device that failed
+  abbrev pub IsSessionCause : (old new : TheSession.Session HostDevice disk) → SessionError → Type 0
+  IsSessionCause old new why =
+      IsSessionSaveCause why (is_broken old) (fits_log (log_in old) (pending_of old)) (generation_in_use old)
+      × (why ≡ Device → (host_disk (device_of new)).faults ≡ next_count (host_disk (device_of old)).faults)
+
+  -- Why no save is told: as of the session; or a device whose calls do not begin with those that were noted. Nothing is said of running out of
+  -- memory.
+  abbrev pub IsSaveCause : (old new : TheSession.Session HostDevice disk) → (noted : List Call) → GameError → Type 0
+  IsSaveCause old new noted Memory = ⊤
+  IsSaveCause old new noted (Session why) = IsSessionCause old new why ⊎ ((why ≡ Broken) × (take (length noted) (calls_of (device_of new)) ≢ noted))
+  IsSaveCause old new noted why = ⊥
 
 -- why a game gives no battery file: a cartridge without battery; and want of memory only where it has one
 abbrev pub IsBatteryCause : (rom : List ℕ) → GameError → Type 0

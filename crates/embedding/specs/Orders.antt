@@ -1,7 +1,7 @@
 -- What a console makes of its machine, and the bytes that it gives.
 use Rattle.std.specs.Prelude.{◌≡◌, ℕ, ◌+◌, ◌-◌, ◌/◌, ◌%◌, List, [], map, slice_index, slice_index_or, Some, ⊤}
 use Rattle.std.specs.List.{range_with_len}
-use Rattle.cartridge.specs.Accepted.{IsAccepted, refusal_of}
+use Rattle.cartridge.specs.Accepted.{refusal_of}
 use Rattle.memory_map.specs.Bus.{peeked}
 use Rattle.machine.specs.Machine.{MachineState}
 use Rattle.snapshot.specs.Legal.{IsFault}

@@ -17,6 +17,7 @@ use machine::{Input, Machine};
 use session::machine_at_power_on;
 use snapshot::{decode_into, encode, powered};
 use std::alloc::{AllocError, Global};
+use std::mem;
 
 /// A machine, and the cartridge that is in it.
 ///
@@ -95,7 +96,7 @@ impl Console {
         let Ok(machine) = powered(alloc, &self.cartridge, &self.machine) else {
             return Err(ConsoleError::Memory);
         };
-        self.machine = machine;
+        drop(mem::replace(&mut self.machine, machine));
         Ok(())
     }
 

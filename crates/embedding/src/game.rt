@@ -1,6 +1,6 @@
 //! A game whose disk is the host's: it hands out the calls that the host has to make.
 
-ghost use Rattle.std.specs.Prelude.{◌≡◌, ◌≤◌, ◌<◌, ◌+◌, ◌*◌, ◌++◌, ◌∷◌, ◌⊎◌, [], true, false, ℕ, List, length, take, slice_get, slice_range, Some, None, Ok, IfOk, IfErr, IfSome, IfNone, OnOk, OnErr};
+ghost use Rattle.std.specs.Prelude.{◌≡◌, ◌≤◌, ◌<◌, ◌+◌, ◌*◌, ◌++◌, ◌∷◌, [], true, false, ℕ, List, length, min, take, slice_get, slice_range, Decides, Some, None, Ok, IfOk, IfErr, IfSome, IfNone, OnOk, OnErr};
 ghost use Rattle.cartridge.specs.Accepted.{IsAccepted, refusal_of};
 ghost use Rattle.cartridge.specs.Header.{has_battery, ram_length_of};
 ghost use Rattle.machine.specs.Machine.{Power, State, start, as_input, applied, picture_rows};
@@ -8,8 +8,8 @@ ghost use Rattle.snapshot.specs.Encoding.{encoded, snapshot_length};
 ghost use Rattle.sector_device.specs.DiskState.{sector_at};
 ghost use Rattle.sector_device.specs.Runs.{HoldsSince};
 ghost use Rattle.log_format.specs.Content.{content, need};
-ghost use Rattle.session.specs.Accessors.{device_of, generation_in_use, log_in, machine_of, rom_of, pending_of, acknowledged_of, is_broken, IsUnchanged};
-ghost use Rattle.session.specs.Calls.{IsRestoreAnswer, fits_log, input_answer};
+ghost use Rattle.session.specs.Accessors.{device_of, machine_of, rom_of, pending_of, acknowledged_of, is_broken, IsUnchanged};
+ghost use Rattle.session.specs.Calls.{IsRestoreAnswer, input_answer};
 ghost use Rattle.session.specs.Stands.{IsAtRest, stands, StandsBetween};
 ghost use Rattle.session.specs.Inputs.{can_be_logged, entry_of, inputs_of};
 ghost use Rattle.battery_files.specs.Battery.{battery_length, battery_of};
@@ -88,7 +88,7 @@ pub fn sectors_of(alloc: Global, rom: &[u8]) -> Result<u64, GameError>
 
 /// Whether the second list begins with the first.
 fn begins(first: &[Call], all: &[Call]) -> bool
-    ensures { result ≡ true → take (length first.now) all.now ≡ first.now }
+    ensures { Decides result (take (length first.now) all.now ≡ first.now) }
 {
     if all.len() < first.len() {
         return false;
@@ -129,35 +129,9 @@ fn write_image(device: &mut HostDevice, image: &[u8]) -> Result<(), GameError>
 }
 
 impl Game {
-    // A game with a session that was begun, of which so many calls are none that the host has to make.
+    // A game with a session that was begun or taken up, once its device had noted so many calls, none of which the host has to make. That it has
+    // noted no fewer by now is no clause of a session, so the lesser counts.
     fn of(
-        alloc: Global,
-        session: Session<HostDevice>,
-        cartridge: Cartridge,
-        handed: usize,
-    ) -> Result<Game, GameError>
-        requires own { rom_of session ≡ cartridge }
-        requires handed { handed ≤ length (calls_of (device_of session)) }
-        ensures session { IfOk result (λ g. g.session ≡ session) }
-        ensures step { IfOk result (λ g. g.in_step ≡ true) }
-        ensures handed { IfOk result (λ g. g.handed ≡ handed) }
-        ensures cause { IfErr result (λ why. why ≡ GameError.Memory) }
-    {
-        let Ok(noted) = session.device().calls().to_vec(alloc) else {
-            drop(session);
-            return Err(GameError::Memory);
-        };
-        Ok(Game {
-            session,
-            noted,
-            handed,
-            in_step: true,
-            cartridge,
-        })
-    }
-
-    // A game with a session that was taken up, once so many calls were noted, of which the host has to make none.
-    fn taken_up(
         alloc: Global,
         session: Session<HostDevice>,
         cartridge: Cartridge,
@@ -166,14 +140,21 @@ impl Game {
         requires { rom_of session ≡ cartridge }
         ensures session { IfOk result (λ g. g.session ≡ session) }
         ensures step { IfOk result (λ g. g.in_step ≡ true) }
-        ensures handed { IfOk result (λ g. g.handed ≡ written) }
-        ensures cause { IfErr result (λ why. (why ≡ GameError.Memory) ⊎ (why ≡ GameError.Session SessionError.Broken)) }
+        ensures handed { IfOk result (λ g. g.handed ≡ min written (length (calls_of (device_of session)))) }
+        ensures cause { IfErr result (λ why. why ≡ GameError.Memory) }
     {
-        if session.device().calls().len() < written {
+        let Ok(noted) = session.device().calls().to_vec(alloc) else {
             drop(session);
-            return Err(GameError::Session(SessionError::Broken));
-        }
-        Game::of(alloc, session, cartridge, written)
+            return Err(GameError::Memory);
+        };
+        let handed = written.min(noted.len());
+        Ok(Game {
+            session,
+            noted,
+            handed,
+            in_step: true,
+            cartridge,
+        })
     }
 
     /// Begins a game at power-on on a device of so many zero sectors. The calls that begin it are the first that the host has to make.
@@ -315,8 +296,7 @@ impl Game {
         ensures all { IfOk result (λ all.
             (all ≡ acknowledged_of self.old.session + length (pending_of self.old.session)) ×
             (acknowledged_of self.new.session ≡ all) × (pending_of self.new.session ≡ [])) }
-        ensures cause { IfErr result (IsSaveCause (is_broken self.old.session)
-            (fits_log (log_in self.old.session) (pending_of self.old.session)) (generation_in_use self.old.session)) }
+        ensures cause { IfErr result (IsSaveCause self.old.session self.new.session self.old.noted.items) }
         ensures rests { IfOk result (λ all.
             IsAtRest (rom_of self.old.session) (host_disk (device_of self.new.session)) all []
             (machine_of self.old.session)) }
@@ -466,7 +446,7 @@ impl Game {
         }
         let written = device.calls().len();
         match resume(alloc, device, &cartridge) {
-            Ok(session) => Game::taken_up(alloc, session, cartridge, written),
+            Ok(session) => Game::of(alloc, session, cartridge, written),
             Err(refused) => Err(GameError::Session(refused.why)),
         }
     }

@@ -1,4 +1,4 @@
-use Rattle.std.proofs.Common.{◌+◌, ◌-◌, sym, ap, ◌∙◌, ◌≡◌, ◌<◌, ℕ, ◌*◌, ◌/◌, ◌%◌, [], List, get_or, subst, arith}
+use Rattle.std.proofs.Common.{◌+◌, ◌-◌, sym, ap, ◌∙◌, ◌≡◌, ◌<◌, ℕ, ◌/◌, ◌%◌, [], List, get_or, arith}
 use Rattle.std.specs.Prelude.{replicate}
 use Rattle.std.proofs.lemmas.List.{length-replicate}
 use Rattle.std.proofs.lemmas.List.Elements.{All-replicate}

@@ -1,4 +1,4 @@
-use Rattle.std.proofs.Common.{◌≡◌, replicate, sym, subst, ◌∙◌}
+use Rattle.std.proofs.Common.{replicate, sym, subst, ◌∙◌}
 use Rattle.std.proofs.lemmas.List.Elements.{All-replicate}
 use Rattle.bank_controllers.specs.CartridgeState.{IsSameCartridge}
 use Rattle.machine.specs.Machine.{MachineState}

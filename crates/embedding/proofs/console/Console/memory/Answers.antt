@@ -1,4 +1,4 @@
-use Rattle.std.proofs.Common.{◌≡◌, ◌+◌, ◌%◌, ◌<◌, ℕ, get_or, arith, length}
+use Rattle.std.proofs.Common.{◌+◌, ◌%◌, ℕ, arith, length}
 use Rattle.std.proofs.lemmas.List.Edits.{fill_by_more}
 use Rattle.std.proofs.lemmas.List.FromFn.{fill_by_all}
 use Rattle.memory_map.specs.Bus.{peeked}

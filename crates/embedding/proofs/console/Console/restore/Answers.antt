@@ -1,4 +1,4 @@
-use Rattle.std.proofs.Common.{◌≡◌, ◌∙◌, ap}
+use Rattle.std.proofs.Common.{◌∙◌, ap}
 use Rattle.cartridge.specs.Header.{has_rumble, ram_length_of}
 use Rattle.snapshot.specs.Table.{kind_of_image}
 use Rattle.embedding.proofs.console.Console.restore.Goals as goal

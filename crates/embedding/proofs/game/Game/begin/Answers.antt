@@ -1,4 +1,4 @@
-use Rattle.std.proofs.Common.{◌≡◌, ◌∙◌, ℕ, List, [], false, sym, ap, subst}
+use Rattle.std.proofs.Common.{◌≡◌, ◌∙◌, ℕ, List, [], false, sym, ap, subst, arith}
 use Rattle.machine.specs.Machine.{start}
 use Rattle.session.specs.Accessors.{device_of, machine_of, rom_of, pending_of, acknowledged_of, is_broken}
 use Rattle.session.specs.Stands.{IsAtRest}
@@ -28,3 +28,6 @@ returns-in-Ok-new_game-clause-rests c =
 pub returns-in-Ok-new_game-clause-cause : goal.returns-in-Ok-new_game-clause-cause
 returns-in-Ok-new_game-clause-cause c =
     if_err c.of.result c.of.ensures.cause (λ why is. subst (IsBeginCause c.args.rom.now c.args.sectors) (sym is) tt)
+
+pub returns-in-Ok-new_game-clause-first : goal.returns-in-Ok-new_game-clause-first
+returns-in-Ok-new_game-clause-first c = if_ok c.of.result c.of.ensures.handed (λ g is. omega (arith, is))

@@ -1,4 +1,4 @@
-use Rattle.std.proofs.Common.{◌≡◌, ◌∙◌, ℕ, List, [], length, true, false, sym, ap, subst}
+use Rattle.std.proofs.Common.{◌≡◌, ◌∙◌, ℕ, List, [], length, true, false, sym, ap, subst, arith}
 use Rattle.cartridge.specs.Header.{has_battery}
 use Rattle.machine.specs.Machine.{MachineState}
 use Rattle.session.specs.Accessors.{device_of, machine_of, rom_of, pending_of, acknowledged_of, is_broken}
@@ -47,3 +47,6 @@ returns-in-Ok-new_game_from-clause-taken c =
 pub returns-in-Ok-new_game_from-clause-cause : goal.returns-in-Ok-new_game_from-clause-cause
 returns-in-Ok-new_game_from-clause-cause c =
     if_err c.of.result c.of.ensures.cause (λ why is. subst (IsImportCause c.args.rom.now c.args.battery.now c.args.sectors) (sym is) tt)
+
+pub returns-in-Ok-new_game_from-clause-first : goal.returns-in-Ok-new_game_from-clause-first
+returns-in-Ok-new_game_from-clause-first c = if_ok c.of.result c.of.ensures.handed (λ g is. omega (arith, is))

@@ -1,17 +1,13 @@
-use Rattle.std.proofs.Common.{◌≡◌, ◌+◌, ◌*◌, ◌<◌, ◌⊎◌, ℕ, List, [], length, inl, inr, refl, Bool, false, sym, ap, ◌∙◌, subst, arith}
+use Rattle.std.proofs.Common.{◌≡◌, ◌+◌, ◌*◌, ◌<◌, ℕ, List, [], length, false, sym, ap, ◌∙◌, subst, arith}
 use Rattle.std.specs.Prelude.{Some, slice_range}
-use Rattle.cartridge.specs.Accepted.{IsAccepted}
 use Rattle.sector_device.specs.DiskState.{sector_at}
 use Rattle.log_format.specs.Content.{content, generation_in}
 use Rattle.session.specs.Accessors.{device_of, machine_of, rom_of, pending_of, acknowledged_of, is_broken}
 use Rattle.session.specs.Found.{IsResumeCause}
 use Rattle.session.specs.Stands.{IsAtRest, stands}
-use Rattle.session.specs.declared.error.SessionError.TheVariants.{Broken}
 use Rattle.session.proofs.Beginnings.{if_err, if_ok}
 use Rattle.embedding.specs.Games.{AreSectorsOf, IsFrom, IsTakeUpCause}
 use Rattle.embedding.specs.HostDevices.{count_of, host_disk}
-use Rattle.embedding.specs.declared.error.GameError.{GameError}
-use Rattle.embedding.specs.declared.error.GameError.TheVariants.{Memory, Session}
 use Rattle.embedding.specs.declared.host_device.HostDevice.{HostDevice}
 use Rattle.embedding.proofs.game.Game.resume.Goals as goal
 
@@ -23,19 +19,15 @@ sectors_are image device count is size each =
     let long : length (host_disk device).sectors ≡ count = ap length (sym device.replays) ∙ is in
     record { size = omega (arith, size, long); each = λ k lt. each k (omega (arith, lt, long)) }
 
-lost_or_memory : (rom image : List ℕ) → IsAccepted rom → (why : GameError) → (why ≡ Memory) ⊎ (why ≡ Session Broken) → IsTakeUpCause rom image why
-lost_or_memory rom image accepted why (inl memory) = subst (IsTakeUpCause rom image) (sym memory) tt
-lost_or_memory rom image accepted why (inr lost) = subst (IsTakeUpCause rom image) (sym lost) (accepted, inr refl)
-
 pub returns-in-Ok-resume-clause-begun : goal.returns-in-Ok-resume-clause-begun
 returns-in-Ok-resume-clause-begun c =
     let begun = c.in-Ok-resume.ensures.begun in
-    if_ok c.taken_up.result c.taken_up.ensures.session
+    if_ok c.of.result c.of.ensures.session
     (λ g is. subst (λ s. (pending_of s ≡ []) × (is_broken s ≡ false) × (rom_of s ≡ c.args.rom.now)) (sym is) (begun.0, begun.1, begun.2 ∙ c.in-Ok.ensures.image))
 
 pub returns-in-Ok-resume-clause-rests : goal.returns-in-Ok-resume-clause-rests
 returns-in-Ok-resume-clause-rests c =
-    if_ok c.taken_up.result c.taken_up.ensures.session
+    if_ok c.of.result c.of.ensures.session
     (λ g is. subst (λ s. IsAtRest c.args.rom.now (host_disk (device_of s)) (acknowledged_of s) [] (machine_of s)) (sym is)
     (subst (λ (rom : List ℕ). IsAtRest rom (host_disk (device_of c.in-Ok-resume.session)) (acknowledged_of c.in-Ok-resume.session) [] (machine_of c.in-Ok-resume.session)) c.in-Ok.ensures.image
     (c.in-Ok-resume.ensures.rests tt)))
@@ -43,7 +35,7 @@ returns-in-Ok-resume-clause-rests c =
 pub returns-in-Ok-resume-clause-from : goal.returns-in-Ok-resume-clause-from
 returns-in-Ok-resume-clause-from c =
     let sectors = (host_disk c.write_image.new.device).sectors in
-    if_ok c.taken_up.result c.taken_up.ensures.session
+    if_ok c.of.result c.of.ensures.session
     (λ g is. subst (λ s. IsFrom c.args.rom.now c.args.image.now (acknowledged_of s) (machine_of s)) (sym is) (record {
       sectors = sectors;
       are = sectors_are c.args.image.now c.write_image.new.device (count_of c.in-Ok-new.device) c.in_default-write_image.ensures.count
@@ -54,16 +46,16 @@ returns-in-Ok-resume-clause-from c =
 
 pub returns-in-Ok-resume-clause-cause : goal.returns-in-Ok-resume-clause-cause
 returns-in-Ok-resume-clause-cause c =
-    if_err c.taken_up.result c.taken_up.ensures.cause (lost_or_memory c.args.rom.now c.args.image.now c.in-Ok.ensures.accepted)
+    if_err c.of.result c.of.ensures.cause (λ why is. subst (IsTakeUpCause c.args.rom.now c.args.image.now) (sym is) tt)
 
 pub returns-in-Err-resume-clause-cause : goal.returns-in-Err-resume-clause-cause
 returns-in-Err-resume-clause-cause c =
     let sectors = (host_disk c.write_image.new.device).sectors in (
       c.in-Ok.ensures.accepted,
-      inl (record {
+      record {
         sectors = sectors;
         are = sectors_are c.args.image.now c.write_image.new.device (count_of c.in-Ok-new.device) c.in_default-write_image.ensures.count
             (omega (arith, c.in-Ok-new.ensures.count, c.if-image-ne0.false)) c.in_default-write_image.ensures.sectors;
         cause = subst (λ (rom : List ℕ). IsResumeCause rom (generation_in sectors) (content sectors) c.in-Err-resume.refused.why) c.in-Ok.ensures.image (c.in-Err-resume.ensures.cause tt);
-      }),
+      },
     )
