@@ -1,5 +1,5 @@
 -- A game that was taken up to be debugged, and why it was not, or not to the end.
-use Rattle.std.proofs.Common.{◌≡◌, ℕ, List, [], Some, Option, refl, subst}
+use Rattle.std.proofs.Common.{◌≡◌, ℕ, List, [], Some, Option, inr, refl, subst}
 use Rattle.cartridge.specs.Accepted.{IsAccepted}
 use Rattle.machine.specs.Machine.{MachineState}
 use Rattle.snapshot.specs.Legal.{IsMachineOf}
@@ -8,10 +8,13 @@ use Rattle.log_format.specs.Content.{content}
 use Rattle.session.specs.Stands.{IsAtRest, Position, stands}
 use Rattle.session.specs.declared.error.SessionError.{SessionError}
 use Rattle.playing.specs.Played.{IsNotTakenUp}
-use Rattle.debugging.specs.Debugged.{Exchange}
+use Rattle.debugging.specs.Debugged.{Exchange, IsDebugCause}
+use Rattle.debugging.specs.Run.{begun}
+use Rattle.debugging.specs.declared.error.DebugError.{DebugError}
+use Rattle.debugging.specs.declared.error.DebugError.TheVariants.{Input as FailedInput, Output as FailedOutput, Memory as LackedMemory}
 use Rattle.commands.specs.declared.error.CommandError.{CommandError}
 use Rattle.commands.specs.declared.error.CommandError.TheVariants.{Cart, Script, Session, Stream, Recording, Verify, Debug, Memory, Output}
-use Rattle.commands.specs.Debug.{IsBegunAndDebugged, IsDebugGameCause, IsNotDebugged, IsTakenUp}
+use Rattle.commands.specs.Debug.{IsBegun, IsBegunAndBroken, IsBegunAndDebugged, IsDebugGameCause, IsNotDebugged, IsTakenUp}
 use Rattle.commands.specs.Refusals.{faults_after}
 
 -- ---- a game that was taken up
@@ -66,3 +69,11 @@ pub not_taken_up : (rom image : List ℕ) (old now : DiskState) (why : SessionEr
     → IsDebugGameCause rom old now (record { unread = left; left = left; before = text; since = text }) (Session why)
 not_taken_up rom image old now why left text is accepted refused =
     (accepted, subst (λ (r : List ℕ). IsNotTakenUp r old now why text text) is refused, refl)
+
+-- ---- the lines of a debugger behind that of the game
+
+pub broken_behind : (why : DebugError) (inputs : ℕ) (machine : MachineState) (io rest : Exchange) → IsBegun inputs io rest → IsDebugCause why (begun machine) rest
+    → IsBegunAndBroken why inputs machine io
+broken_behind FailedInput inputs machine io rest line cause = (rest, line, cause)
+broken_behind FailedOutput inputs machine io rest line cause = inr (rest, line, cause)
+broken_behind LackedMemory inputs machine io rest line cause = (rest, line, cause)

@@ -1,9 +1,11 @@
 -- A play that was not begun, and why one was refused.
 use Rattle.std.proofs.Common.{◌≡◌, Bool, ◌+◌, inl, refl, sym, ap, subst, ℕ, List, length, Option, Result, Ok, Err, arith}
 use Rattle.std.specs.Io.KnownBytes.{Appends}
-use Rattle.machine.specs.Machine.{MachineState, after}
+use Rattle.exact_text.specs.Written.{AppendsProperPrefix}
+use Rattle.machine.specs.Machine.{MachineState, after, picture_rows}
 use Rattle.machine.specs.Machine.{Input}
-use Rattle.std.specs.Prelude.{IfErr, OnErr}
+use Rattle.std.specs.Prelude.{IfErr, OnErr, OnOk}
+use Rattle.picture_unit.specs.Pgm.{picture_text}
 use Rattle.sector_device.specs.DiskState.{DiskState}
 use Rattle.sector_device.specs.Runs.{HoldsSince}
 use Rattle.session.proofs.Beginnings.{since_now}
@@ -17,7 +19,7 @@ use Rattle.commands.specs.declared.error.CommandError.{CommandError}
 use Rattle.commands.specs.declared.error.CommandError.TheVariants.{Output}
 use Rattle.sector_device.specs.declared.refused.Refused.{Refused}
 use Rattle.session.proofs.Answering.{answered_error, answered_otherwise, answered_value}
-use Rattle.commands.specs.Play.{AnswersPlay, HasReported, IsLastMachine, IsPlayCause, IsUnplayable, moves_in, moves_read}
+use Rattle.commands.specs.Play.{AnswersPlay, HasDrawn, HasDrawnPart, HasReported, IsLastMachine, IsPlayCause, IsUnplayable, moves_in, moves_read}
 use Rattle.commands.specs.Refusals.{faults_after}
 use Rattle.sector_device.specs.Refusal.{left_by}
 use Rattle.commands.specs.Text.{Call, call_on}
@@ -82,3 +84,16 @@ drawn {D} disk device left rom script old new failed (Err refused) same why play
       output = λ is. absurd (cc);
       answered = answered_otherwise plays.answered (λ n. ap (λ (w : CommandError). faults_after w n) why);
     })
+
+-- ---- the picture
+
+pub picture_drawn : {D : Type 0} (r : Result D (Refused CommandError D)) {rom script : List ℕ} {old : DiskState} (before since : Option (List ℕ)) (machine : MachineState)
+    → IsLastMachine rom script old machine → OnOk r (Appends before since (picture_text (picture_rows machine))) → OnOk r (HasDrawn rom script old before since)
+picture_drawn (Ok device) before since machine last out = record { machine = machine; is_last = last; drawn = out }
+picture_drawn (Err refused) before since machine last out = tt
+
+pub part_drawn : {D : Type 0} (r : Result D (Refused CommandError D)) (rom script : List ℕ) (old : DiskState) (before since : Option (List ℕ)) (machine : MachineState)
+    → IsLastMachine rom script old machine → IfErr r (λ refused. refused.why ≡ Output) → OnErr r (AppendsProperPrefix before since (picture_text (picture_rows machine)))
+    → IfErr r (λ refused. HasDrawnPart rom script old before since refused.why)
+part_drawn (Ok device) rom script old before since machine last why part = tt
+part_drawn (Err refused) rom script old before since machine last why part = subst (HasDrawnPart rom script old before since) (sym why) (machine, last, part)

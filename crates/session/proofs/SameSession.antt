@@ -1,5 +1,5 @@
 -- A session whose machine was replaced by an equal one is the same session.
-use Rattle.std.proofs.Common.{◌≡◌, ◌≤◌, ◌<◌, ◌+◌, ◌^◌, ℕ, length, true, Vec, Global, sym, ap, subst}
+use Rattle.std.proofs.Common.{◌≡◌, ◌≤◌, ◌<◌, ◌+◌, ◌^◌, ℕ, length, Vec, Global, sym, ap, subst}
 use Rattle.std.proofs.Props.{props}
 use Rattle.std.specs.Prelude.{vec_capacity}
 use Rattle.sha2.specs.Sha256.{sha256}

@@ -6,7 +6,7 @@ use Rattle.sector_device.specs.DiskState.{DiskState}
 use Rattle.sector_device.specs.Runs.{HoldsSince}
 use Rattle.sector_device.proofs.Runs.{throughout_weaker}
 use Rattle.log_format.specs.Appends.{HoldsPrefix, grown}
-use Rattle.sector_log.specs.Calls.{HasOldOrNewContent, HasBegun, IsAppended}
+use Rattle.sector_log.specs.Calls.{HasOldOrNewContent, IsAppended}
 use Rattle.log_format.specs.Content.{content, new_generation}
 use Rattle.log_format.specs.Found.{log_of}
 use Rattle.input_entries.specs.Inputs.{is_input, all_input}

@@ -23,6 +23,7 @@ use sector_device::SectorDevice;
 use sector_log::{Entry, Store};
 use snapshot::{decode_into, powered};
 use std::alloc::Global;
+use std::mem;
 
 /// The most inputs that can be unsaved.
 pub const MOST_UNSAVED: u64 = 3_200;
@@ -258,7 +259,7 @@ impl<D: SectorDevice> Session<D> {
         let Ok(machine) = powered(alloc, cartridge, &self.machine) else {
             return Err(SessionError::Memory);
         };
-        self.machine = machine;
+        drop(mem::replace(&mut self.machine, machine));
         push(&mut self.pending, no_input());
         Ok(())
     }

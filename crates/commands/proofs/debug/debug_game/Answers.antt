@@ -1,11 +1,12 @@
-use Rattle.std.proofs.Common.{◌≡◌, ap, length, refl, subst, sym, arith, Err}
+use Rattle.std.proofs.Common.{◌≡◌, ap, length, refl, subst, sym, arith, Ok, Err, ℕ, List}
 use Rattle.machine.specs.Machine.{MachineState}
 use Rattle.snapshot.specs.Legal.{IsMachineOf}
 use Rattle.sector_device.specs.DiskState.{HasAnswered}
-use Rattle.session.specs.Stands.{Position}
+use Rattle.sector_device.specs.Runs.{HoldsSince}
+use Rattle.session.specs.Stands.{Position, StandsAsBefore}
 use Rattle.session.specs.Accessors.{acknowledged_of, device_of, machine_of}
 use Rattle.session.specs.declared.session.Counts.{Counts}
-use Rattle.session.proofs.Answering.{answered_otherwise}
+use Rattle.session.proofs.Answering.{answered_otherwise, answered_value}
 use Rattle.playing.proofs.Telling.{keeps_same, memory_at}
 use Rattle.debugging.specs.Debugged.{Exchange}
 use Rattle.commands.specs.Debug.{HasDebugged, IsDebugGameCause}
@@ -54,3 +55,20 @@ returns-clause-answered g c =
     subst (λ (d : g.row.D.Denot). HasAnswered (λ refused. faults_after refused.why) (g.D.SectorDevice.disk c.args.device) (g.D.SectorDevice.disk d) (Err (record { why = c.in-Err-debugged.why; device = c.into_device-device.result })))
     (sym c.into_device-device.ensures.device)
     (answered_otherwise c.in-Ok-resume.ensures.answered (λ n. lines_only c.in-Ok.cartridge _ _ _ c.in-Err-debugged.why n c.in-Err-debugged.ensures.err))
+
+pub returns-in-Ok-debugged-clause-images : goal.returns-in-Ok-debugged-clause-images
+returns-in-Ok-debugged-clause-images g c = λ honest.
+    let disk = g.D.SectorDevice.disk c.args.device in
+    subst (λ (d : g.row.D.Denot). HoldsSince disk (g.D.SectorDevice.disk d) (StandsAsBefore c.args.rom.items disk)) (sym c.into_device-device.ensures.device)
+    (subst (λ (rom : List ℕ). HoldsSince disk (g.D.SectorDevice.disk (device_of c.in-Ok-resume.session)) (StandsAsBefore rom disk)) c.in-Ok.ensures.image (c.in-Ok-resume.ensures.images honest))
+
+pub returns-clause-images : goal.returns-clause-images
+returns-clause-images g c = λ honest.
+    let disk = g.D.SectorDevice.disk c.args.device in
+    subst (λ (d : g.row.D.Denot). HoldsSince disk (g.D.SectorDevice.disk d) (StandsAsBefore c.args.rom.items disk)) (sym c.into_device-device.ensures.device)
+    (subst (λ (rom : List ℕ). HoldsSince disk (g.D.SectorDevice.disk (device_of c.in-Ok-resume.session)) (StandsAsBefore rom disk)) c.in-Ok.ensures.image (c.in-Ok-resume.ensures.images honest))
+
+pub returns-in-Ok-debugged-clause-answered : goal.returns-in-Ok-debugged-clause-answered
+returns-in-Ok-debugged-clause-answered g c =
+    subst (λ (d : g.row.D.Denot). HasAnswered (λ refused. faults_after refused.why) (g.D.SectorDevice.disk c.args.device) (g.D.SectorDevice.disk d) (Ok c.into_device-device.result))
+    (sym c.into_device-device.ensures.device) (answered_value c.in-Ok-resume.ensures.answered)

@@ -1,10 +1,12 @@
-use Rattle.std.proofs.Common.{◌≡◌, ℕ, length, drop, refl, sym, ap, ◌∙◌, subst, arith}
+use Rattle.std.proofs.Common.{◌≡◌, ◌≤◌, ◌<◌, ◌^◌, ℕ, List, length, drop, inl, inr, ⊎_elim, refl, sym, ap, ◌∙◌, subst, arith}
+use Rattle.std.specs.Prelude.{◌↔◌}
 use Rattle.sha2.specs.Sha256.{sha256}
 use Rattle.cartridge.specs.Header.{ram_length_of}
 use Rattle.snapshot.specs.Encoding.{encoded, snapshot_length}
 use Rattle.sector_device.specs.Runs.{HoldsSince}
-use Rattle.sector_log.specs.Calls.{HasOldOrNewContent, HasBegun, IsBeginCause}
-use Rattle.sector_log.specs.Accessors.{device_of as device_of_store, entries_of}
+use Rattle.log_format.specs.Content.{need}
+use Rattle.sector_log.specs.Calls.{HasOldOrNewContent, HasBegun, CanBegin, IsBeginCause}
+use Rattle.sector_log.specs.Accessors.{device_of as device_of_store, is_broken as is_broken_store, entries_of}
 use Rattle.sector_log.specs.OpenedAccessors.{device_under, found_generation}
 use Rattle.sector_log.specs.declared.fault.LogFault.{LogFault}
 use Rattle.sector_log.specs.declared.fault.LogFault.TheVariants.{Memory as LogMemory, Device as LogDevice, TooSmall as LogTooSmall, GenerationsUsedUp as LogGenerationsUsedUp, LogFull, Broken as LogBroken}
@@ -66,3 +68,53 @@ returns-in-Err-clause-answered g c = record {
   faults = c.in-Err.ensures.answered.faults ∙ same_faults c.in-Err.refused.why (g.D.SectorDevice.disk (device_under c.args.opened)).faults
       ∙ ap (λ fault. faults_after fault (g.D.SectorDevice.disk (device_under c.args.opened)).faults) (sym c.fault_of.ensures);
 }
+
+pub returns-in-Ok-clause-begun : goal.returns-in-Ok-clause-begun
+returns-in-Ok-clause-begun g c =
+    (c.at.ensures.acknowledged, c.at.ensures.pending, ap is_broken_store c.at.ensures.store ∙ c.in-Ok.ensures.begun.unbroken, c.at.ensures.machine)
+
+pub returns-in-Ok-clause-of : goal.returns-in-Ok-clause-of
+returns-in-Ok-clause-of g c = machine_of_rom c.args.cartridge.now c.args.machine c.requires.rom c.requires.own c.encode.ensures.legal
+
+pub returns-in-Err-clause-of : goal.returns-in-Err-clause-of
+returns-in-Err-clause-of g c = machine_of_rom c.args.cartridge.now c.args.machine c.requires.rom c.requires.own c.encode.ensures.legal
+
+pub returns-in-Ok-clause-can : goal.returns-in-Ok-clause-can
+returns-in-Ok-clause-can g c =
+    let size : length c.deref.result.now ≡ snapshot_length (ram_length_of c.args.cartridge.now) = omega arith in
+    subst (λ (n : ℕ). CanBegin n (length (g.D.SectorDevice.disk (device_under c.args.opened)).sectors) (found_generation c.args.opened)) size c.in-Ok.ensures.begun.could
+
+pub returns-in-Ok-clause-answered : goal.returns-in-Ok-clause-answered
+returns-in-Ok-clause-answered g c =
+    let answered = c.in-Ok.ensures.answered in
+    let device = ap device_of_store c.at.ensures.store in
+    let disk = g.D.SectorDevice.disk in
+    record {
+      count = ap (λ d. length (disk d).sectors) device ∙ answered.count;
+      honest = subst (λ d. (disk d).honest ↔ (disk (device_under c.args.opened)).honest) (sym device) answered.honest;
+      faults_ok = ap (λ d. (disk d).faults) device ∙ answered.faults_ok;
+      faults = tt;
+    }
+
+pub returns-in-Err-clause-untouched : goal.returns-in-Err-clause-untouched
+returns-in-Err-clause-untouched g c =
+    ⊎_elim (λ (device : c.in-Err.refused.why ≡ LogDevice). inl (c.fault_of.ensures ∙ ap session_fault device)) inr c.in-Err.ensures.untouched
+
+pub at-requires-clause-large : goal.at-requires-clause-large
+at-requires-clause-large g c =
+    let count = length (g.D.SectorDevice.disk (device_of_store c.in-Ok.store)).sectors in
+    subst (λ (blob : List ℕ). need (length blob) ≤ count) c.deref.ensures.value
+    (subst (λ (n : ℕ). need (length c.deref.result.now) ≤ n) (sym c.in-Ok.ensures.answered.count) c.in-Ok.ensures.begun.could.enough)
+
+pub at-requires-clause-room : goal.at-requires-clause-room
+at-requires-clause-room g c =
+    let size : length c.deref.result.now ≡ snapshot_length (ram_length_of c.args.cartridge.now) = omega arith in
+    ap length (sym c.deref.ensures.value) ∙ size ∙ ap snapshot_length (sym (c.requires.own.ram_length ∙ ap ram_length_of c.requires.rom))
+
+pub at-requires-clause-short : goal.at-requires-clause-short
+at-requires-clause-short g c =
+    let short : length c.deref.result.now < 2 ^ 32 = omega arith in
+    subst (λ (blob : List ℕ). length blob < 2 ^ 32) c.deref.ensures.value short
+
+pub at-requires-clause-id : goal.at-requires-clause-id
+at-requires-clause-id g c = c.in-Ok.ensures.begun.id_is ∙ c.digest.ensures ∙ ap sha256 (sym c.requires.rom)

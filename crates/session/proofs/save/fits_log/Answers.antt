@@ -1,4 +1,4 @@
-use Rattle.std.proofs.Common.{◌≡◌, ◌∙◌, ◌&&◌, inl, inr, true, false, sym, ap}
+use Rattle.std.proofs.Common.{◌≡◌, ◌∙◌, ◌&&◌, inl, inr, true, false, sym}
 use Rattle.std.proofs.lemmas.Bool.{cases_Bool}
 use Rattle.log_format.specs.Appends.{fits}
 use Rattle.sector_log.specs.Accessors.{entries_of}

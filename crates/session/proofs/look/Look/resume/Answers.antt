@@ -1,15 +1,16 @@
-use Rattle.std.proofs.Common.{◌≤◌, ℕ, List, [], length, refl, sym, subst, arith}
+use Rattle.std.proofs.Common.{◌≤◌, ℕ, List, [], length, refl, sym, ap, ◌∙◌, subst, arith}
 use Rattle.cartridge.specs.Header.{ram_length_of}
 use Rattle.sha2.specs.Sha256.{sha256}
 use Rattle.machine.specs.Machine.{MachineState}
 use Rattle.snapshot.specs.Encoding.{encoded, snapshot_length}
+use Rattle.snapshot.specs.Legal.{IsMachineOf}
 use Rattle.sector_device.specs.Runs.{HoldsSince}
 use Rattle.log_format.specs.Content.{need}
 use Rattle.sector_log.specs.OpenedAccessors.{found_generation}
 use Rattle.session.specs.Stands.{IsAtRest, StandsAsBefore}
 use Rattle.session.specs.Accessors.{device_of, machine_of, left_by}
 use Rattle.session.specs.LookAccessors.{device_of_look}
-use Rattle.session.proofs.Beginnings.{if_ok_both, if_err, begun_at_rest, looked_resume}
+use Rattle.session.proofs.Beginnings.{if_ok, if_ok_both, if_err, begun_at_rest, looked_resume}
 use Rattle.session.proofs.Finding.{begin_not_output}
 use Rattle.session.proofs.Looks.{looked_nothing, stood_at_rest, take_up_cause, taken_up_images}
 use Rattle.session.proofs.look.Look.resume.Goals as goal
@@ -47,3 +48,25 @@ returns-clause-cause g c =
 
 pub returns-clause-no_report : goal.returns-clause-no_report
 returns-clause-no_report g c = if_err c.begin_with.result c.begin_with.ensures.cause (λ refused. begin_not_output _ _ _ refused.why)
+
+pub returns-clause-begun : goal.returns-clause-begun
+returns-clause-begun g c =
+    if_ok c.begin_with.result c.begin_with.ensures.begun
+    (λ s begun. (begun.1, begun.2, ap (λ (m : MachineState). m.processor.memory.banks.rom) begun.3 ∙ c.requires))
+
+pub returns-clause-same : goal.returns-clause-same
+returns-clause-same g c = if_ok c.begin_with.result c.begin_with.ensures.begun (λ s begun. (begun.0, begun.3))
+
+pub returns-clause-of : goal.returns-clause-of
+returns-clause-of g c =
+    if_ok c.begin_with.result c.begin_with.ensures.begun
+    (λ s begun. subst (λ (m : MachineState). IsMachineOf c.args.cartridge.now m) (sym begun.3) c.begin_with.ensures.of)
+
+pub returns-clause-can : goal.returns-clause-can
+returns-clause-can g c = if_ok c.begin_with.result c.begin_with.ensures.can (λ s can. can.unworn)
+
+pub returns-clause-untouched : goal.returns-clause-untouched
+returns-clause-untouched g c = c.begin_with.ensures.untouched
+
+pub returns-clause-answered : goal.returns-clause-answered
+returns-clause-answered g c = c.begin_with.ensures.answered

@@ -1,4 +1,4 @@
-use Rattle.std.proofs.Common.{◌≡◌, ◌∙◌, Result, Ok, sym, ap, subst}
+use Rattle.std.proofs.Common.{◌∙◌, Result, Ok, sym, ap, subst}
 use Rattle.sha2.specs.Sha256.{sha256}
 use Rattle.cartridge.specs.Header.{has_rumble, ram_length_of}
 use Rattle.snapshot.specs.Encoding.{snapshot_length}
