@@ -37,7 +37,7 @@ pub(crate) fn file_bytes<R: Files<File = File> + AllocGlobal>(
     }
 }
 
-/// IsTextCause what is there and no plain file: to open a pipe, or to read it, may take forever.
+/// Refuses what is there and no plain file: to open a pipe, or to read it, may take forever.
 pub(crate) fn not_a_pipe<R: Files<File = File>>(rt: &R, path: &str) -> Result<(), Fault>
     ensures { IfErr result (λ fault. fault ≡ Fault.File) }
 {

@@ -16,7 +16,7 @@ const SECOND_LINE: &[u8] = b"\ngbkeep record\n";
 /// A mark is read up to this many bytes and one: the longest name of a file, and its second line.
 const MOST_MARK: u64 = 8_192;
 
-/// IsTextCause a game that has a mark.
+/// Refuses a game that has a mark.
 pub(crate) fn unless_recorded<R: Files<File = File> + AllocGlobal>(
     rt: &R,
     save: &str,
