@@ -4,10 +4,9 @@ use Rattle.std.specs.Prelude.{bit_and, map}
 use Rattle.std.specs.List.{range_with_len}
 use Rattle.std.proofs.lemmas.List.FromFn.{fill_by_all}
 use Rattle.cartridge.specs.declared.controller.Controller.{Controller}
-use Rattle.sm83_processor.specs.declared.processor.ProcessorState.{ProcessorState}
 use Rattle.machine.specs.declared.machine_without_memory.MachineWithoutMemory.{MachineWithoutMemory}
-use Rattle.snapshot.specs.Encoding.{fixed_fields, kind_byte, processor_byte}
-use Rattle.snapshot.specs.Reading.{processor_of, registers_in}
+use Rattle.snapshot.specs.Encoding.{fixed_fields, kind_byte}
+use Rattle.snapshot.specs.Reading.{registers_in}
 use Rattle.snapshot.proofs.Bytes.{word_back, low_back, high_back, digit_test, test_digit, six_back, six_again, two_back, two_again, flags_back, flags_again}
 
 -- the registers of registers' bytes

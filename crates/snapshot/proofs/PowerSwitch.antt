@@ -6,8 +6,6 @@ use Rattle.bank_controllers.specs.declared.clock.ClockRegisters.{ClockRegisters}
 use Rattle.bank_controllers.specs.State.{IsClockOf}
 use Rattle.bank_controllers.specs.CartridgeState.{CartridgeState, IsLegalRam, IsSameCartridge, cartridge_at_power_on}
 use Rattle.memory_map.specs.State.{BusState}
-use Rattle.memory_map.specs.Stores.{FitsRegion}
-use Rattle.memory_map.specs.declared.region.Region.TheVariants.{CartRam}
 use Rattle.machine.specs.declared.machine_without_memory.MachineWithoutMemory.{MachineWithoutMemory}
 use Rattle.machine.specs.Machine.{MachineState, powered, start, with_clocks, with_ram}
 use Rattle.machine.specs.MachineStores.{without_memory, restored, AreLegalFor}

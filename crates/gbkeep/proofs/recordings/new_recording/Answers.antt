@@ -1,4 +1,4 @@
-use Rattle.std.proofs.Common.{◌≤◌, refl, arith}
+use Rattle.std.proofs.Common.{◌≤◌, refl, true, arith}
 use Rattle.command_line.specs.declared.Request.TheVariants.{NewRecording}
 use Rattle.playing.proofs.Telling.{keeps_same}
 use Rattle.recording.specs.Accessors.{device_of}
@@ -12,7 +12,7 @@ use Rattle.gbkeep.proofs.recordings.new_recording.Goals as goal
 pub returns-in-Ok-clause-served : goal.returns-in-Ok-clause-served
 returns-in-Ok-clause-served g c =
     let rom = c.in_ok-cartridge.cartridge in
-    let accepted = accepted_image _ _ c.in_ok-cartridge.ensures.image (c.in_ok-cartridge.ensures.accepted.0 refl) in
+    let accepted = accepted_image _ _ c.in_ok-cartridge.ensures.image (c.in_ok-cartridge.ensures.accepted.0 (refl {a = true})) in
     let enough : 2 ≤ c.args.sectors = omega (arith, c.if-sectors-lt-FEWEST_SECTORS.false) in
     let created = c.in-Ok.ensures.created in
     let zero = c.in_ok-making.ensures.zero in
@@ -26,7 +26,7 @@ returns-in-Ok-clause-served g c =
 pub returns-clause-served : goal.returns-clause-served
 returns-clause-served g c =
     let rom = c.in_ok-cartridge.cartridge in
-    let accepted = accepted_image _ _ c.in_ok-cartridge.ensures.image (c.in_ok-cartridge.ensures.accepted.0 refl) in
+    let accepted = accepted_image _ _ c.in_ok-cartridge.ensures.image (c.in_ok-cartridge.ensures.accepted.0 (refl {a = true})) in
     let zero = c.in_ok-making.ensures.zero in
     let honest = c.in_ok-making.ensures.honest in (
       keeps_same (g.O.Output.contents c.args.out.now),

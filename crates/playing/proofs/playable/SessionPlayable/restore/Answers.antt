@@ -1,7 +1,8 @@
-use Rattle.std.proofs.Common.{ap, sym, ◌∙◌}
+use Rattle.std.proofs.Common.{ap, sym, ◌∙◌, subst, length, length-append}
 use Rattle.machine.specs.Machine.{State}
 use Rattle.snapshot.specs.Reading.{machine_in}
-use Rattle.snapshot.proofs.Machines.{machine_back}
+use Rattle.snapshot.specs.Legal.{IsLegalSnapshot}
+use Rattle.snapshot.proofs.Machines.{machine_back, encoded_legal}
 use Rattle.session.specs.Accessors.{device_of, machine_of, pending_of, is_broken}
 use Rattle.session.proofs.Saving.{no_input_is_none}
 use Rattle.playing.specs.Going.{place}
@@ -29,3 +30,10 @@ returns-in_default-clause-refused g c =
     input_goes_no_further (place was) (place now) (State (machine_in c.args.cartridge.now c.args.bytes.now)) (ap g.D.SectorDevice.disk c.restore.ensures.device) c.restore.ensures.kept.0 c.restore.ensures.kept.2
     (g.met.D.SectorDevice.only_now (device_of was)) c.in-Err.why (is_broken was) c.requires.whole c.requires.few
     (restore_refused c.args.cartridge.now c.args.bytes.now c.in-Err.why _ c.in-Err.ensures.answer c.in_default.not-Damaged)
+
+pub returns-in-Ok-clause-legal : goal.returns-in-Ok-clause-legal
+returns-in-Ok-clause-legal g c = λ done.
+    subst (IsLegalSnapshot c.args.cartridge.now) c.in-Ok.ensures.machine.1 (encoded_legal c.args.cartridge.now (machine_of c.restore.new.self) c.in-Ok.ensures.machine.0)
+
+pub returns-in-Ok-clause-unsaved : goal.returns-in-Ok-clause-unsaved
+returns-in-Ok-clause-unsaved g c = λ done. ap length c.in-Ok.ensures.pending ∙ length-append (pending_of c.args.self.now) _
