@@ -285,7 +285,8 @@ impl Game {
     /// Saves what is pending. At `Ok` the calls that were noted end with the sync that makes it sure: once the host has made them all, no power
     /// cut loses any of the inputs. The answer is the count of all inputs.
     ///
-    /// Refusals: those of `Session::save`; `Memory`, where there is none for the notes: what was saved is told by the next save.
+    /// Refusals: those of `Session::save`; `Session` with `Broken`, where the device's calls do not begin with those that were noted; `Memory`, where
+    /// there is none for the notes: what was saved is told by the next save.
     pub fn save(&mut self) -> Result<u64, GameError>
         // the calls that the host has to make: more of them, and those that it has by now stay
         ensures grows { take (length self.old.noted.items) self.new.noted.items ≡ self.old.noted.items }
