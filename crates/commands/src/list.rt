@@ -36,17 +36,16 @@ pub fn list_lines<W: Output>(
         Ok(cartridge) => cartridge,
         Err(fault) => return Err(CommandError::Cart(fault)),
     };
-    let listed = {
-        let machine = match Machine::power_on(alloc, &cartridge) {
-            Ok(machine) => machine,
-            Err(_) => return Err(CommandError::Memory),
-        };
-        let debugger = match Debugger::new(alloc, machine, 1) {
-            Ok(debugger) => debugger,
-            Err(_) => return Err(CommandError::Memory),
-        };
-        debugger.list(address, count, out)
+    let machine = match Machine::power_on(alloc, &cartridge) {
+        Ok(machine) => machine,
+        Err(_) => return Err(CommandError::Memory),
     };
+    let debugger = match Debugger::new(alloc, machine, 1) {
+        Ok(debugger) => debugger,
+        Err(_) => return Err(CommandError::Memory),
+    };
+    let listed = debugger.list(address, count, out);
+    drop(debugger);
     match listed {
         Ok(()) => Ok(()),
         Err(_) => Err(CommandError::Output),

@@ -35,14 +35,13 @@ pub fn step_line<W: Output>(
         Ok(cartridge) => cartridge,
         Err(fault) => return Err(CommandError::Cart(fault)),
     };
-    let line = {
-        let mut machine = match Machine::power_on(alloc, &cartridge) {
-            Ok(machine) => machine,
-            Err(_) => return Err(CommandError::Memory),
-        };
-        machine.run_steps(count);
-        register_line(machine.processor())
+    let mut machine = match Machine::power_on(alloc, &cartridge) {
+        Ok(machine) => machine,
+        Err(_) => return Err(CommandError::Memory),
     };
+    machine.run_steps(count);
+    let line = register_line(machine.processor());
+    drop(machine);
     match write_whole(out, line.as_bytes()) {
         Ok(()) => Ok(()),
         Err(_) => Err(CommandError::Output),

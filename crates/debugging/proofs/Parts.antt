@@ -9,10 +9,13 @@ use lib.Seq.{drop-cons}
 use lib.ListN.{drop_of_length-le}
 use Rattle.circular_buffer.specs.Buffer.{keep_last}
 use Rattle.exact_text.specs.Written.{AppendsProperPrefix}
+use Rattle.exact_text.proofs.Writes.{prefix_of_longer}
 use Rattle.sm83_processor.specs.declared.step.Executed.{Executed}
 use Rattle.debugger.specs.Report.{line_seen}
 use Rattle.debugger.proofs.Lines.{IsWrittenBut, none_written, one_more_written, part_failed}
-use Rattle.debugging.specs.Answers.{history_text, serial_text}
+use Rattle.debugging.specs.Answers.{after_order, history_text, serial_text}
+use Rattle.debugging.specs.declared.order.Order.{Order}
+use Rattle.debugging.specs.Run.{RunState}
 use Rattle.machine_lines.specs.Texts.{count_line}
 
 -- ---- items
@@ -48,6 +51,9 @@ text_is count first second sent size whole =
 module _ (count : ℕ) (first second sent : List ℕ) (size : count ≡ length first + length second) (whole : first ++ second ≡ sent) (a b : Option (List ℕ)) where
   to_text : (F : List ℕ → Type 0) → F (text_of count first second) → F (serial_text sent)
   to_text F = subst F (text_is count first second sent size whole)
+
+  pub count_failed : AppendsProperPrefix a b (count_line (codes "serial") count) → AppendsProperPrefix a b (serial_text sent)
+  count_failed failed = to_text (AppendsProperPrefix a b) (prefix_of_longer a b _ _ failed)
 
   module _ (c : Option (List ℕ)) (one : Appends a b (count_line (codes "serial") count)) where
     so_far_one : IsWrittenBut (first ++ (second ++ codes "\n")) (text_of count first second) a b
@@ -91,3 +97,8 @@ on_ok_of (Err e) is fine p = absurd (cc)
 pub on_err_of : {T E : Type 0} (r : Result T E) {b : Bool} {P : Type 0} → b ≡ is_err r → b ≡ true → OnErr r P → P
 on_err_of (Ok x) is failed p = absurd (cc)
 on_err_of (Err e) is failed p = p
+
+-- what a run is after an order, whether its answer was written or not
+pub run_told : {T E : Type 0} (w : Result T E) (r : RunState) {order form : Order} {now : RunState} → order ≡ form → now ≡ after_order form r → OnOk w (now ≡ after_order order r)
+run_told (Ok x) r {order} {form} {now} is run = subst (λ (o : Order). now ≡ after_order o r) (sym is) run
+run_told (Err e) r is run = tt

@@ -109,10 +109,12 @@ pub(crate) fn import<R: Files<File = File> + AllocGlobal, O: Output>(
     }
     let MakingDevice { making, device } = new_device(rt, save, sectors)?;
     match begin_import(rt.alloc(), device, &cartridge, battery.as_slice()) {
-        // it holds the file's lock until the file has its name
-        Ok(_session) => {
+        Ok(session) => {
             unmark(rt, save);
-            tell_begun(rt, making, out)
+            let told = tell_begun(rt, making, out);
+            // it holds the file's lock until the file has its name
+            drop(session);
+            told
         }
         Err(why) => {
             making.give_up(rt);

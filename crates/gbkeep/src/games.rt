@@ -40,10 +40,12 @@ pub(crate) fn new<R: Files<File = File> + AllocGlobal, O: Output>(
     }
     let MakingDevice { making, device } = new_device(rt, save, sectors)?;
     match new_game(rt.alloc(), device, &cartridge) {
-        // it holds the file's lock until the file has its name
-        Ok(_session) => {
+        Ok(session) => {
             unmark(rt, save);
-            tell_begun(rt, making, out)
+            let told = tell_begun(rt, making, out);
+            // it holds the file's lock until the file has its name
+            drop(session);
+            told
         }
         Err(refused) => {
             making.give_up(rt);

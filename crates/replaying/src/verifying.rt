@@ -119,13 +119,12 @@ fn compare<S: SectorDevice, D: SectorDevice>(
     if recorded < count {
         return Err(VerifyError::Behind(recorded));
     }
-    let same = {
-        let machine = match machine_after(alloc, recording, count, cartridge) {
-            Ok(machine) => machine,
-            Err(why) => return Err(why),
-        };
-        has_snapshot(alloc, &machine, look.snapshot())
+    let machine = match machine_after(alloc, recording, count, cartridge) {
+        Ok(machine) => machine,
+        Err(why) => return Err(why),
     };
+    let same = has_snapshot(alloc, &machine, look.snapshot());
+    drop(machine);
     match same {
         Ok(true) => Ok(count),
         Ok(false) => Err(VerifyError::Differ),

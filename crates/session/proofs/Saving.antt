@@ -1,5 +1,5 @@
 -- The steps of an input and of a save.
-use Rattle.std.proofs.Common.{◌≡◌, ◌&&◌, inl, inr, ⊎_elim, ℕ, ◌+◌, ◌<◌, ◌^◌, List, [], ◌∷◌, ◌++◌, length, take, Bool, true, false, Option, Some, None, refl, sym, ap, ◌∙◌, subst, arith, length-append}
+use Rattle.std.proofs.Common.{◌≡◌, ◌&&◌, inl, inr, ⊎_elim, ℕ, ◌+◌, ◌-◌, ◌<◌, ◌≤◌, ◌^◌, List, [], ◌∷◌, ◌++◌, length, take, Bool, true, false, Option, Some, None, refl, sym, ap, ◌∙◌, subst, arith, length-append}
 use Rattle.std.proofs.lemmas.Bool.{cases_Bool}
 use Rattle.std.proofs.lemmas.List.Elements.{All-nil, All-cons}
 use Rattle.std.proofs.lemmas.List.{take_all, take-map, length-map, length-take-le}
@@ -21,7 +21,7 @@ use Rattle.log_format.specs.Found.{log_of}
 use Rattle.input_entries.specs.Inputs.{is_input, all_input}
 use Rattle.input_entries.specs.declared.Entry.{Entry}
 use Rattle.input_entries.specs.declared.StoredEntry.{StoredEntry}
-use Rattle.session.specs.Calls.{IsSaved, fits_log}
+use Rattle.session.specs.Calls.{IsSaved, fits_log, most_unsaved}
 use Rattle.session.specs.Stands.{IsAtRest, Position, stands, further, StandsWithin, StandsBetween}
 use Rattle.session.specs.Inputs.{can_be_logged, input_of, inputs_of, no_input}
 use Rattle.session.specs.Resting.{Rests}
@@ -54,6 +54,13 @@ same_after m now input passes is =
 pub given_passes : (input : PassingInput) → PassesTime (as_input input)
 given_passes (FrameInput buttons) = tt
 given_passes (SecondsInput n) = tt
+
+-- one more entry, where there is room for it
+pub few_more : (before after : List Entry) (entry : Entry) → after ≡ before ++ entry ∷ [] → length before < most_unsaved → length after ≤ most_unsaved
+few_more before after entry is room = omega (arith, ap length is ∙ length-append before (entry ∷ []))
+
+pub counted_more : (before after : List Entry) (entry : Entry) (n : ℕ) → after ≡ before ++ entry ∷ [] → n + length before < 2 ^ 64 - 1 → n + length after < 2 ^ 64
+counted_more before after entry n is room = omega (arith, ap length is ∙ length-append before (entry ∷ []))
 
 and_no : (b : Bool) → (b && false) ≡ false
 and_no true = refl

@@ -1,6 +1,6 @@
 use Rattle.std.proofs.Common.{◌≡◌, ◌∙◌, ap, length, subst, sym}
 use Rattle.exact_text.specs.Written.{AppendsProperPrefix}
-use Rattle.exact_text.proofs.Writes.{whole_then_prefix}
+use Rattle.exact_text.proofs.Writes.{prefix_of_longer, whole_then_prefix}
 use Rattle.debugger.specs.History.{DebuggerState}
 use Rattle.debugging.specs.Answers.{history_text}
 use Rattle.debugging.proofs.Parts.{last_of}
@@ -17,3 +17,9 @@ returns-clause-err g c =
     subst (AppendsProperPrefix (g.W.Output.contents c.args.out.now) (g.W.Output.contents c.write_seen.new.out)) text
     (whole_then_prefix _ _ _ _ _ c.in_default.ensures.ok failed))
     c.write_seen.ensures.err
+
+pub returns-in-Err-clause-err : goal.returns-in-Err-clause-err
+returns-in-Err-clause-err g c =
+    let text = last_of c.args.most c.debugger.result.now.history c.history_len-length.result c.saturating_sub-first.result c.history_len-length.ensures.len c.saturating_sub-first.ensures
+    ∙ ap (λ (d : DebuggerState). history_text c.args.most d.history) c.debugger.ensures in
+    subst (AppendsProperPrefix (g.W.Output.contents c.args.out.now) (g.W.Output.contents c.write_count.new.out)) text (prefix_of_longer _ _ _ _ c.in-Err.ensures.err)

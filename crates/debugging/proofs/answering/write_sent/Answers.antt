@@ -1,5 +1,5 @@
 use Rattle.std.proofs.Common.{◌+◌, length, refl}
-use Rattle.debugging.proofs.Parts.{end_failed, first_failed, second_failed}
+use Rattle.debugging.proofs.Parts.{count_failed, end_failed, first_failed, second_failed}
 use Rattle.machine_lines.proofs.Calls.{on_err}
 use Rattle.debugging.proofs.answering.write_sent.Goals as goal
 
@@ -26,3 +26,8 @@ returns-clause-err g c =
     (g.W.Output.contents c.write_whole.new.out) c.in_default.ensures.ok (g.W.Output.contents c.write_whole-2.new.out) c.in_default-write_whole.ensures.ok
     (g.W.Output.contents c.write_whole-3.new.out) c.in_default-write_whole-2.ensures.ok)
     c.write_whole-3.ensures.err
+
+pub returns-in-Err-clause-err : goal.returns-in-Err-clause-err
+returns-in-Err-clause-err g c =
+    count_failed (length c.sent.result.0.now + length c.sent.result.1.now) c.sent.result.0.now c.sent.result.1.now c.args.run.now.sent refl c.sent.ensures
+    (g.W.Output.contents c.args.out.now) (g.W.Output.contents c.write_count.new.out) c.in-Err.ensures.err

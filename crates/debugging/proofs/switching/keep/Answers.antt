@@ -1,7 +1,8 @@
 use Rattle.std.proofs.Common.{◌≡◌, ◌≢◌, ◌∙◌, ap, length, subst}
+use Rattle.std.specs.Prelude.{slice_set}
 use Rattle.machine.specs.Legal.{IsLegalMachine}
 use Rattle.machine.specs.Machine.{MachineState}
-use Rattle.snapshot.specs.Encoding.{snapshot_length}
+use Rattle.snapshot.specs.Encoding.{encoded, snapshot_length}
 use Rattle.debugger.specs.History.{DebuggerState}
 use Rattle.debugging.specs.Run.{RunState}
 use Rattle.debugging.proofs.Parts.{on_err_of, on_ok_of}
@@ -20,3 +21,9 @@ returns-in-Ok-clause-legal g c =
     let same : c.machine-machine.result.now ≡ c.args.run.debugger.machine =
     c.machine-machine.ensures ∙ ap (λ (d : DebuggerState). d.machine) c.debugger.ensures ∙ ap (λ (r : RunState). r.debugger.machine) c.draw_late-run.ensures in
     subst (λ (m : MachineState). IsLegalMachine m) same (on_ok_of c.keep.result c.is_err.ensures.value c.if-is_err.false c.keep.ensures.legal)
+
+pub returns-in-Ok-clause-kept : goal.returns-in-Ok-clause-kept
+returns-in-Ok-clause-kept g c =
+    let same : c.machine-machine.result.now ≡ c.args.run.debugger.machine =
+    c.machine-machine.ensures ∙ ap (λ (d : DebuggerState). d.machine) c.debugger.ensures ∙ ap (λ (r : RunState). r.debugger.machine) c.draw_late-run.ensures in
+    on_ok_of c.keep.result c.is_err.ensures.value c.if-is_err.false c.keep.ensures.kept ∙ ap (λ (m : MachineState). slice_set c.args.kept.now c.args.slot (encoded m)) same

@@ -26,11 +26,11 @@ returns-in-Ok-clause-served g c =
     let enough : need (snapshot_length (ram_length_of rom)) ≤ sectors_for rom c.args.sectors = omega (arith, same, c.sectors_needed-need.ensures, c.if-sectors-need.false) in
     let zero = c.in_ok-making.ensures.zero in
     let honest = c.in_ok-making.ensures.honest in
-    let begun = import_begun c.args.cart c.args.battery c.args.save c.args.sectors rom _ c.sectors_or-sectors.result c.in_ok-making.field-0.device (device_of c.in-Ok._session) enough
+    let begun = import_begun c.args.cart c.args.battery c.args.save c.args.sectors rom _ c.sectors_or-sectors.result c.in_ok-making.field-0.device (device_of c.in-Ok.session) enough
     zero same (c.in-Ok.ensures.begun honest) in
     begun_served (Import c.args.cart c.args.battery c.args.save c.args.sectors) _ _ tt tt
     (λ written. (rom, (accepted, begun, written))) (λ cut. (rom, accepted, begun, cut))
-    c.tell_begun.result c.tell_begun.ensures.written c.tell_begun.ensures.cause
+    c.tell_begun-told.result c.tell_begun-told.ensures.written c.tell_begun-told.ensures.cause
 
 pub returns-in_err-rom-clause-served : goal.returns-in_err-rom-clause-served
 returns-in_err-rom-clause-served g c = unread_served (Import c.args.cart c.args.battery c.args.save c.args.sectors) _ tt _ _ (keeps_same _) c.from_residual.ensures.1 c.in_err-rom.ensures

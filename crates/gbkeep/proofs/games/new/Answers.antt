@@ -21,11 +21,11 @@ returns-in-Ok-clause-served g c =
     let enough : need (snapshot_length (ram_length_of rom)) ≤ sectors_for rom c.args.sectors = omega (arith, same, c.sectors_needed-need.ensures, c.if-sectors-need.false) in
     let zero = c.in_ok-making.ensures.zero in
     let honest = c.in_ok-making.ensures.honest in
-    let begun = game_begun rom c.sectors_or-sectors.result (sectors_for rom c.args.sectors) (start rom) c.in_ok-making.field-0.device (device_of c.in-Ok._session) zero same
+    let begun = game_begun rom c.sectors_or-sectors.result (sectors_for rom c.args.sectors) (start rom) c.in_ok-making.field-0.device (device_of c.in-Ok.session) zero same
     c.in-Ok.ensures.answered.count (c.in-Ok.ensures.rests honest) in
     begun_served (New c.args.cart c.args.save c.args.sectors) _ _ tt tt
     (λ written. (rom, (accepted, (enough, begun), written))) (λ cut. (rom, accepted, (enough, begun), cut))
-    c.tell_begun.result c.tell_begun.ensures.written c.tell_begun.ensures.cause
+    c.tell_begun-told.result c.tell_begun-told.ensures.written c.tell_begun-told.ensures.cause
 
 pub returns-in_err-rom-clause-served : goal.returns-in_err-rom-clause-served
 returns-in_err-rom-clause-served g c = unread_served (New c.args.cart c.args.save c.args.sectors) _ tt _ _ (keeps_same _) c.from_residual.ensures.1 c.in_err-rom.ensures

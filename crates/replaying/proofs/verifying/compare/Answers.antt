@@ -17,8 +17,8 @@ returns-in-Ok-true-clause-leads g c = λ honest.
     let counted = c.requires.counted honest in
     let enough : count_of_look c.args.look.now ≤ length given = omega (arith, counted, c.count-count.ensures, c.input_count-recorded.ensures, c.if-recorded-count.false) in
     let own = c.in-Ok.ensures.own in
-    let replayed = machine_of_rom rom c.in-Ok.machine own.1 own.0 c.in-Ok-true.ensures-1.legal in
-    let same : encoded (machine_of_look c.args.look.now) ≡ encoded c.in-Ok.machine = sym (c.in-Ok-true.ensures-1.same.0 c.in-Ok-true.field-0-test ∙ c.snapshot.ensures) in
+    let replayed = machine_of_rom rom c.in-Ok.machine own.1 own.0 c.in-Ok-true.ensures.legal in
+    let same : encoded (machine_of_look c.args.look.now) ≡ encoded c.in-Ok.machine = sym (c.in-Ok-true.ensures.same.0 c.in-Ok-true.field-0-test ∙ c.snapshot.ensures) in
     record {
       enough = enough;
       machine_is = one_machine rom (machine_of_look c.args.look.now) c.in-Ok.machine c.requires.of replayed same

@@ -2,6 +2,7 @@ use Rattle.std.proofs.Common.{◌≡◌, ◌≤◌, ◌<◌, ⊎_elim, inl, inr,
 use Rattle.sha2.specs.Sha256.{sha256}
 use Rattle.snapshot.specs.Encoding.{encoded, snapshot_length}
 use Rattle.cartridge.specs.Header.{ram_length_of}
+use Rattle.machine.specs.Machine.{MachineState}
 use Rattle.sector_device.specs.Runs.{HoldsSince}
 use Rattle.log_format.specs.Content.{need}
 use Rattle.sector_log.specs.OpenedAccessors.{device_under, found_generation}
@@ -91,3 +92,10 @@ returns-clause-refused g c =
       untouched = if_err result c.begin_with.ensures.untouched
           (λ refused. ⊎_elim inl (λ same. inr (λ honest. subst (λ d. HoldsSince disk (g.D.SectorDevice.disk d) disk.image) (sym same) (c.in-Ok-open_log.ensures.looked honest).since)));
     }
+
+pub returns-clause-machine : goal.returns-clause-machine
+returns-clause-machine g c =
+    if_ok c.begin_with.result c.begin_with.ensures.begun (λ s begun. (begun.3, ap (λ (m : MachineState). m.processor.memory.banks.rom) begun.3 ∙ c.requires.rom))
+
+pub returns-clause-begun : goal.returns-clause-begun
+returns-clause-begun g c = if_ok c.begin_with.result c.begin_with.ensures.begun (λ s begun. (begun.0, begun.1, begun.2))

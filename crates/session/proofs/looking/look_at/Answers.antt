@@ -6,6 +6,7 @@ use Rattle.snapshot.specs.Legal.{IsMachineOf}
 use Rattle.input_entries.specs.Inputs.{inputs}
 use Rattle.log_format.specs.Content.{content}
 use Rattle.log_format.specs.Found.{Seen}
+use Rattle.sector_device.specs.Looking.{HasLooked}
 use Rattle.sector_log.specs.OpenedAccessors.{device_under, found_generation, seen}
 use Rattle.session.specs.Stands.{IsAtRest, stands}
 use Rattle.session.specs.Recovery.{IsRecovered, IsRecoveryCause}
@@ -82,3 +83,7 @@ returns-in-Err-clause-no_report g c = λ output. log_not_output c.in-Err.refused
 
 pub returns-in-Err-recovered-clause-no_report : goal.returns-in-Err-recovered-clause-no_report
 returns-in-Err-recovered-clause-no_report g c = recovery_not_output c.args.cartridge.now (seen c.in-Ok-open_log.opened) 0 c.in-Err-recovered.why c.in-Err-recovered.ensures.err
+
+pub returns-in-Ok-recovered-clause-looked : goal.returns-in-Ok-recovered-clause-looked
+returns-in-Ok-recovered-clause-looked g c = λ honest.
+    subst (λ o. HasLooked (g.D.SectorDevice.disk c.args.device) (g.D.SectorDevice.disk (device_under o))) (sym c.at.ensures.opened) (c.in-Ok-open_log.ensures.looked honest)

@@ -6,7 +6,7 @@ use Rattle.machine.specs.Machine.{Input, as_input}
 use Rattle.session.specs.Inputs.{can_be_logged, inputs_of}
 use Rattle.session.proofs.StandsLaws.{logged_append}
 use Rattle.session.proofs.Beginnings.{own_again}
-use Rattle.session.proofs.Saving.{given_passes, logged_more, same_after, rests_more}
+use Rattle.session.proofs.Saving.{given_passes, logged_more, same_after, few_more, counted_more, rests_more}
 use Rattle.session.proofs.session.Session.input.Goals as goal
 
 pub invariant_of-self-clause-room : goal.invariant_of-self-clause-room
@@ -36,3 +36,9 @@ returns-clause-given g c =
 
 pub returns-clause-logged : goal.returns-clause-logged
 returns-clause-logged g c = ap can_be_logged c.push.ensures.items ∙ logged_more c.args.self.now.pending.items c.entry_of.result c.entry_of.ensures.is_input
+
+pub invariant_of-self-clause-few : goal.invariant_of-self-clause-few
+invariant_of-self-clause-few g c = few_more c.args.self.now.pending.items c.push.new.entries.items c.entry_of.result c.push.ensures.items c.in_default.ensures.few
+
+pub invariant_of-self-clause-counted : goal.invariant_of-self-clause-counted
+invariant_of-self-clause-counted g c = counted_more c.args.self.now.pending.items c.push.new.entries.items c.entry_of.result c.args.self.now.acknowledged c.push.ensures.items c.in_default.ensures.counted

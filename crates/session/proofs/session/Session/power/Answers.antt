@@ -5,7 +5,7 @@ use Rattle.snapshot.specs.Encoding.{snapshot_length}
 use Rattle.snapshot.specs.Legal.{IsMachineOf}
 use Rattle.sector_log.specs.Accessors.{device_of as device_of_store, entries_of}
 use Rattle.session.proofs.Beginnings.{own_of_machine, same_as_start}
-use Rattle.session.proofs.Saving.{rests_otherwise}
+use Rattle.session.proofs.Saving.{few_more, counted_more, rests_otherwise}
 use Rattle.session.proofs.session.Session.power.Goals as goal
 
 pub powered-requires : goal.powered-requires
@@ -44,3 +44,9 @@ pub returns-clause-kept : goal.returns-clause-kept
 returns-clause-kept g c =
     let of = subst (IsMachineOf c.args.cartridge.now) (sym c.replace.ensures.after) c.in-Ok.ensures.of in
     (refl, refl, of.rom ∙ sym c.requires)
+
+pub invariant_of-self-clause-few : goal.invariant_of-self-clause-few
+invariant_of-self-clause-few g c = few_more c.args.self.now.pending.items c.push.new.entries.items c.no_input.result c.push.ensures.items c.in_default.ensures.few
+
+pub invariant_of-self-clause-counted : goal.invariant_of-self-clause-counted
+invariant_of-self-clause-counted g c = counted_more c.args.self.now.pending.items c.push.new.entries.items c.no_input.result c.args.self.now.acknowledged c.push.ensures.items c.in_default.ensures.counted

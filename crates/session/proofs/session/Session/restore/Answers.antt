@@ -9,7 +9,7 @@ use Rattle.sector_log.specs.Accessors.{device_of as device_of_store, entries_of}
 use Rattle.session.specs.Calls.{IsRestoreAnswer}
 use Rattle.session.specs.declared.error.SessionError.{SessionError}
 use Rattle.session.proofs.Beginnings.{own_of_machine}
-use Rattle.session.proofs.Saving.{rests_otherwise}
+use Rattle.session.proofs.Saving.{few_more, counted_more, rests_otherwise}
 use Rattle.session.proofs.SameSession.{same_session}
 use Rattle.session.proofs.session.Session.restore.Goals as goal
 
@@ -48,3 +48,9 @@ returns-in-Ok-clause-answer g c =
 
 pub returns-in-Err-decode_into-clause-same : goal.returns-in-Err-decode_into-clause-same
 returns-in-Err-decode_into-clause-same g c = same_session c.args.self.now c.decode_into.new.machine c.in-Err-decode_into.ensures.refused.0 _
+
+pub invariant_of-self-clause-few : goal.invariant_of-self-clause-few
+invariant_of-self-clause-few g c = few_more c.args.self.now.pending.items c.push.new.entries.items c.no_input.result c.push.ensures.items c.in_default.ensures.few
+
+pub invariant_of-self-clause-counted : goal.invariant_of-self-clause-counted
+invariant_of-self-clause-counted g c = counted_more c.args.self.now.pending.items c.push.new.entries.items c.no_input.result c.args.self.now.acknowledged c.push.ensures.items c.in_default.ensures.counted
