@@ -39,7 +39,7 @@ help:
 	@echo '  make edits           tries every wrong body, 10 to 40 s each (CRATE=name for one crate)'
 	@echo '  make lint            looks at all Python by pyflakes3 (two seconds)'
 	@echo '  make test            the gate: proves everything from nothing, runs the tests and programs (docs/CONTRIBUTING.md says how long)'
-	@echo '  make bench           proves the benchmarks: times, instructions a frame; calls of the save file (20 minutes from nothing; needs strace)'
+	@echo '  make bench           what frames, pictures, steps and saves cost in what ships (needs valgrind, strace, and what make libretro needs)'
 	@echo '  make compare         compares the program with a second one, in Python, on random ROMs (SECONDS=20 a kind)'
 	@echo '  make hostile         gives the program damaged files and wrong scripts, kills it, and looks at what is left (SECONDS=20 a kind)'
 	@echo '  make fuzz            gives it random ROMs, scripts and save files alone, from another seed each time (SECONDS=20 in all), and then its'
@@ -91,16 +91,14 @@ endif
 edits:
 	RT=$(RT) python3 -B scripts/edits.py $(CRATE)
 
-bench:
-	cd crates/bench && $(RT) run -- frames
-	$(MAKE) bin/gbkeep
-	python3 -B scripts/instructions.py crates/bench/out/bench bin/gbkeep
-	cd crates/bench && $(RT) run -- lines
-	cd crates/bench && $(RT) run -- units
-	cd crates/bench && $(RT) run -- snapshots
+bench: bin/gbkeep
+	$(MAKE) bin/gbkeep_libretro.so
+	python3 -B scripts/shipped.py bin/gbkeep bin bin/gbkeep_libretro.so
 	python3 -B scripts/session_cost.py bin/gbkeep
 	python3 -B scripts/program_cost.py bin/gbkeep
 	python3 -B scripts/state_cost.py bin/gbkeep
+	cd crates/bench && $(RT) run -- lines
+	cd crates/bench && $(RT) run -- units
 
 SECONDS ?= 20
 

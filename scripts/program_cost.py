@@ -6,9 +6,8 @@ usage: program_cost.py GBKEEP [FRAMES]
 Of the demo cartridge: the processor time of so many frames, each with its picture, line by line through a pipe; and of the same frames in one line, and
 as many pictures of one machine. The ratio is the first by the sum of the others. Then, of 3,000 saves of two frames each: the wall time of `stream`, and of
 `record`, which writes and syncs one file more. Then of `recorded`, of 2,000,000 inputs. Of a busy loop: the processor time of `test`, of 36,000 frames, and of
-`stream`, of the same frames. Of the loop of `bench steps`: the processor time of `debug`, of `until` with eight addresses that the loop does not meet; and,
-where valgrind is there, the host's instructions of such a step, which stand beside those of `run_until`, and of a step of `until-op`, `until-write` and
-`until-read`."""
+`stream`, of the same frames. Of another: the processor time of `debug`, of `until` with eight addresses that the loop does not meet; and, where valgrind is
+there, the host's instructions of such a step, and of a step of `until-op`, `until-change`, `until-write` and `until-read`."""
 import os
 import re
 import shutil
@@ -59,12 +58,12 @@ def busy_loop(room):
 
 
 def steps_loop(room):
-    """The busy loop of `bench steps`: LD B,03; then for ever ADD A,B; INC B; XOR A,C; LD C,A; RL C; INC HL; JR 0102."""
+    """A busy loop: LD B,03; then for ever ADD A,B; INC B; XOR A,C; LD C,A; RL C; INC HL; JR 0102."""
     return cartridge(room, bytes([0x06, 0x03, 0x80, 0x04, 0xa9, 0x4f, 0xcb, 0x11, 0x23, 0x18, 0xf7]))
 
 
 def until(steps):
-    """A line that steps up to one of the addresses of `bench steps run_until`."""
+    """A line that steps up to one of eight addresses that the loop does not meet."""
     return b'until %d 0000 0038 0040 0101 0107 01FF 4000 C000\n' % steps
 
 
@@ -129,9 +128,10 @@ def main():
         spent = min(processor_seconds([gbkeep, 'debug', loop], until(steps)) for _ in range(3))
         print('debug, until of %d steps: %.2f s, %.1f ns a step' % (steps, spent, 1e9 * spent / steps))
         if shutil.which('valgrind'):
-            lines = (until, lambda many: b'until-op %d 40\n' % many, lambda many: b'until-write %d C000 CFFF\n' % many, lambda many: b'until-read %d C000\n' % many)
+            lines = (until, lambda many: b'until-op %d 40\n' % many, lambda many: b'until-change %d C000\n' % many,
+                     lambda many: b'until-write %d C000 CFFF\n' % many, lambda many: b'until-read %d C000\n' % many)
             counts = [step_instructions(gbkeep, loop, line) for line in lines]
-            print('debug: %.0f instructions a step of until, %.0f of until-op, %.0f of until-write, %.0f of until-read' % tuple(counts))
+            print('debug: %.1f instructions a step of until, %.1f of until-op, %.1f of until-change, %.1f of until-write, %.1f of until-read' % tuple(counts))
     return 0
 
 

@@ -1,12 +1,21 @@
-"""The ROMs whose frames SPEED.md counts: each does one thing all the time.
+"""The ROMs whose frames SPEED.md counts: each does one thing all the time, but for those that are as games are.
 
-usage: build.py FOLDER
+usage: build.py FOLDER     writes each as FOLDER/NAME.gb, of 32 KiB, and prints what it does
+       build.py made       makes those anew that lie here beside their sources, where they are not as made (compiled.gb where sdcc 4.2.0 is installed)
+       build.py check      the status is 1 where one is not as made
 
-Writes each as FOLDER/NAME.gb, of 32 KiB, and prints what it does. `ROMS` has the program of each, for the assembler of the demo."""
+`ROMS` has the program of each, for the assembler of the demo. Those of `GAMES` lie here, beside their sources: an .asm for the assembler, or C."""
+import shutil
+import subprocess
 import sys
+import tempfile
 from pathlib import Path
 
 from examples.demo.assemble import Assembler
+
+HERE = Path(__file__).resolve().parent
+# another one makes other bytes of the same C
+SDCC = '4.2.0'
 
 NAMES = '''
 joypad equ $ff00
@@ -382,21 +391,86 @@ ROMS = {
 }
 
 
+GAMES = {
+    'game': 'a game: actors, DMA, a status window by LYC, music by the timer, half a frame of work, HALT',
+    'wave': 'an effect in each line by LYC, beside work that fills the frame',
+    'unpack': 'unpacks blocks by far calls into another bank',
+    'compiled': 'a main loop in C by sdcc: records, text, a sort, sums and products of 32 bits',
+}
+
+
+def what(name):
+    """What a ROM does, in a line."""
+    return GAMES.get(name) or ROMS[name][0]
+
+
 def write(folder):
     """Writes each ROM, and answers where it lies."""
     folder.mkdir(parents=True, exist_ok=True)
-    carts = {name: folder / f'{name}.gb' for name in ROMS}
+    carts = {name: folder / f'{name}.gb' for name in [*ROMS, *GAMES]}
     for name, cart in carts.items():
-        cart.write_bytes(Assembler().assemble(NAMES + ROMS[name][1]))
+        cart.write_bytes((HERE / f'{name}.gb').read_bytes() if name in GAMES else Assembler().assemble(NAMES + ROMS[name][1]))
     return carts
+
+
+def compiled():
+    """The ROM of compiled.c and compiled.s."""
+    with tempfile.TemporaryDirectory(prefix='speed-') as room:
+        def run(*words):
+            subprocess.run(words, cwd=room, check=True)
+
+        run('sdasgb', '-o', 'start.rel', str(HERE / 'compiled.s'))
+        run('sdcc', '-msm83', '-c', '-o', 'main.rel', str(HERE / 'compiled.c'))
+        run('sdcc', '-msm83', '--no-std-crt0', '--code-loc', '0x0200', '--data-loc', '0xc000', '-o', 'main.ihx', 'start.rel', 'main.rel')
+        rom = bytearray(0x8000)
+        for line in Path(room, 'main.ihx').read_text().split():
+            record = bytes.fromhex(line[1:])
+            if record[3] == 0:
+                at = int.from_bytes(record[1:3], 'big')
+                rom[at:at + record[0]] = record[4:-1]
+        if len(rom) != 0x8000:
+            sys.exit('build.py: compiled.c is more than 32 KiB')
+        rom[0x14d] = -sum(byte + 1 for byte in rom[0x134:0x14d]) & 255
+        return bytes(rom)
+
+
+def has_sdcc():
+    """Whether the sdcc that compiled.gb was made by is installed."""
+    return bool(shutil.which('sdcc')) and f' {SDCC} ' in subprocess.run(['sdcc', '--version'], capture_output=True, text=True).stdout
+
+
+def made(name):
+    """What the sources of a game make, or None where there is no sdcc for it."""
+    if name == 'compiled':
+        return compiled() if has_sdcc() else None
+    return bytes(Assembler().assemble((HERE / f'{name}.asm').read_text()))
+
+
+def make(is_check):
+    """Makes the games that are not as their sources make them, and tells which; or tells which are not."""
+    status = 0
+    for name in GAMES:
+        rom, path = made(name), HERE / f'{name}.gb'
+        if rom is None:
+            print(f'{path.name}: there is no sdcc {SDCC} to make it anew')
+        elif not path.exists() or path.read_bytes() != rom:
+            print(f'{path.name}: ' + ('not as its source makes it' if is_check else 'made anew'))
+            status = 1
+            if not is_check:
+                new = path.with_name(f'.{path.name}.new')
+                new.write_bytes(rom)
+                new.replace(path)
+    return status if is_check else 0
 
 
 def main():
     if len(sys.argv) != 2:
         sys.exit(__doc__)
+    if sys.argv[1] in ('made', 'check'):
+        return make(sys.argv[1] == 'check')
     for name, cart in write(Path(sys.argv[1])).items():
-        print(f'{cart.name:16} {ROMS[name][0]}')
+        print(f'{cart.name:16} {what(name)}')
 
 
 if __name__ == '__main__':
-    main()
+    sys.exit(main())

@@ -692,11 +692,8 @@ def drawn_over(rnd, seed):
     gone(OUT)
 
 
-WARNING = b'gbkeep: warning: other emulators write battery files of this name\n'
-
-
-def warned(rnd, seed):
-    """`new` warns of a name that other emulators take for their battery file, and makes the same file."""
+def silent(rnd, seed):
+    """`new` says nothing of a name that other emulators take for their battery file, and makes the same file."""
     rom = random_rom(rnd)
     put(CART, rom)
     files = []
@@ -704,7 +701,7 @@ def warned(rnd, seed):
         path = os.path.join(ROOM, name)
         gone(path)
         status, out, err = gbkeep('new', CART, path)
-        if (status, out, err) != (0, b'begun 0\n', WARNING if name.endswith(('.sav', '.srm')) else b''):
+        if (status, out, err) != (0, b'begun 0\n', b''):
             differs('names', seed, 'new of %s: %r' % (name, (status, out, err)))
         files.append(get(path))
         gone(path)
@@ -728,7 +725,7 @@ def names(rnd, seed):
                 return differs('names', seed, 'CART is lost by OUT %s' % path)
     gone(soft), gone(hard)
     drawn_over(rnd, seed)
-    warned(rnd, seed)
+    silent(rnd, seed)
 
 
 def closed(rnd, seed):

@@ -9,6 +9,7 @@ use picture_unit::LatePicture;
 pub const PICTURE_LENGTH: usize = 23_040;
 
 /// A shade of a row, 0 the darkest.
+#[inline(always)]
 fn lightness(row: &[u8; 160], column: usize) -> u8
     requires column { column < 160 }
     requires shades { All (λ shade. shade < 4) row.now }
@@ -22,11 +23,10 @@ pub(crate) fn write_shades(picture: &LatePicture, out: &mut [u8])
     requires { length out.old ≡ 23040 }
     ensures { out.new ≡ shades_of picture.now.rows }
 {
-    let mut row = [0; 160];
-    for k in 0..out.len() {
-        if k % 160 == 0 {
-            row = picture.row(k / 160);
+    for y in 0..144 {
+        let row = picture.row(y);
+        for x in 0..160 {
+            out[160 * y + x] = lightness(&row, x);
         }
-        out[k] = lightness(&row, k % 160);
     }
 }

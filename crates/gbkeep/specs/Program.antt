@@ -34,7 +34,7 @@ use Rattle.streaming.specs.declared.error.StreamError.TheVariants.{Session as St
 use Rattle.gbkeep.specs.declared.fault.Fault.TheVariants.{Cart, Memory, File, Output, Address, Word, Device, Script, Session, Line, Input, Snapshot, Recording, Behind, Ahead, Differ, RecordedGame, TestFailed, TestUndecided, NoBattery, BatteryLength}
 use Rattle.script.specs.Script.{IsRefused as IsScriptRefused}
 use Rattle.commands.specs.Text.{Text, IsUnread, IsUnwritten}
-use Rattle.gbkeep.specs.Request.{HasAddress, HasDevice, HasScript, IsDone, IsCompared, GivesInputs, IsGameRefused, IsMemoryRefused, IsOutputRefused, IsRecordingRefused, IsTestDecided, IsWithoutBattery, IsOtherLength, IsScriptOf, makes_battery_name, IsStreamStopped, IsStreamedTo, IsNotBelonging, IsRecordStopped, IsRecordedTo, record_limits, IsDebugged, IsDebugStopped, IsDebugUnbegun, IsDebugNotTakenUp}
+use Rattle.gbkeep.specs.Request.{HasAddress, HasDevice, HasScript, IsDone, IsCompared, GivesInputs, IsGameRefused, IsMemoryRefused, IsOutputRefused, IsRecordingRefused, IsTestDecided, IsWithoutBattery, IsOtherLength, IsScriptOf, imports_to_battery_name, IsStreamStopped, IsStreamedTo, IsNotBelonging, IsRecordStopped, IsRecordedTo, record_limits, IsDebugged, IsDebugStopped, IsDebugUnbegun, IsDebugNotTakenUp}
 
 abbrev pub status_of : Fault → ℕ
 status_of (Cart fault) = 1
@@ -360,7 +360,7 @@ IsFulfilled asked input output = ⊥
 
 -- standard error has nothing, or the warning of a name
 abbrev pub IsWarned : Result Asked Fault → (errors : Text) → Type 0
-IsWarned (Ok (Command request)) errors = HasWarned (makes_battery_name request) errors
+IsWarned (Ok (Command request)) errors = HasWarned (imports_to_battery_name request) errors
 IsWarned asked errors = IsUnwritten errors
 
 -- this fault is why it was not done

@@ -218,11 +218,10 @@ HasScript request = ⊥
 abbrev pub is_battery_name : List ℕ → Bool
 is_battery_name name = ends_with (λ one other. one == other) name (codes ".sav") || ends_with (λ one other. one == other) name (codes ".srm")
 
--- it makes a SAVE of such a name
-abbrev pub makes_battery_name : Request → Bool
-makes_battery_name (New cart save sectors) = is_battery_name save.now
-makes_battery_name (Import cart battery save sectors) = is_battery_name save.now
-makes_battery_name request = false
+-- it makes a SAVE of such a name from a battery file
+abbrev pub imports_to_battery_name : Request → Bool
+imports_to_battery_name (Import cart battery save sectors) = is_battery_name save.now
+imports_to_battery_name request = false
 
 -- this is the text of the script that it names, or of none
 abbrev pub IsScriptOf : Request → (text : List ℕ) → Type 0

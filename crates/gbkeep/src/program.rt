@@ -1,7 +1,7 @@
 //! The program: words in, files and lines out.
 
 ghost use Rattle.std.specs.Prelude.{◌≡◌, ◌≤◌, ◌⊎◌, IfErr, OnErr, map, true};
-ghost use Rattle.gbkeep.specs.Request.{is_battery_name, makes_battery_name};
+ghost use Rattle.gbkeep.specs.Request.{is_battery_name, imports_to_battery_name};
 ghost use Rattle.gbkeep.specs.Program.{Ends, EndsOnSome, HasEnded, HasWarned, IsOutputFault, IsPossible, IsServed, IsServedReading, KeepsAtMisuse, TellsOutput};
 
 use crate::batteries::{export, import};
@@ -119,15 +119,14 @@ fn answer<R: Files<File = File> + AllocGlobal, I: LineInput, O: Output, E: Outpu
     }
 }
 
-/// Warns of a SAVE that another emulator takes for its battery file.
+/// Warns where a battery file was taken in, and another emulator takes the SAVE for its own one.
 fn warn<E: Output>(request: Request<'_>, err: &mut E)
-    ensures { HasWarned (makes_battery_name request.entry) (record {
+    ensures { HasWarned (imports_to_battery_name request.entry) (record {
       before = E.contents err.old;
       since = E.contents err.new;
     }) }
 {
     match request {
-        Request::New { save, .. } => warn_of(save, err),
         Request::Import { save, .. } => warn_of(save, err),
         _ => {}
     }

@@ -12,10 +12,11 @@ ghost use Rattle.sm83_processor.specs.FastStep.{IsFast, IsUsual};
 ghost use Rattle.sm83_processor.specs.Steps.{passing, step_of};
 
 use crate::counting_loop::pass_count;
+use crate::loops::{ABOVE_ROM, FrameLoops, IN_HRAM, IN_LOWER_ROM, IN_UPPER_ROM, IN_WRAM, is_there};
 use crate::polling_loop::pass_poll;
 use crate::waiting_loop::{may_wait, pass_laps};
 use memory_map::Bus;
-use sm83_processor::{FIRST_OWN_LOOP, Processor, StepKind};
+use sm83_processor::{Processor, StepKind};
 
 /// The M-cycles of a frame.
 pub(crate) const FRAME: u32 = 17_556;
@@ -31,39 +32,6 @@ const SHORT_PIECE: u32 = 16;
 
 /// How many times as long the next piece is if it was searched for laps, and none were found.
 const LONGER: u32 = 16;
-
-/// The loop of fast steps in the lower half of ROM.
-pub(crate) const IN_LOWER_ROM: u8 = FIRST_OWN_LOOP;
-
-/// The loop of fast steps in the upper half of ROM.
-pub(crate) const IN_UPPER_ROM: u8 = FIRST_OWN_LOOP + 1;
-
-/// The loop of fast steps in WRAM.
-pub(crate) const IN_WRAM: u8 = FIRST_OWN_LOOP + 2;
-
-/// The loop of fast steps in HRAM.
-pub(crate) const IN_HRAM: u8 = FIRST_OWN_LOOP + 3;
-
-/// The loop of fast steps above ROM.
-pub(crate) const ABOVE_ROM: u8 = FIRST_OWN_LOOP + 4;
-
-/// The loop of counted steps in the lower half of ROM.
-pub(crate) const COUNTED_IN_LOWER_ROM: u8 = FIRST_OWN_LOOP + 5;
-
-/// The loop of counted steps in the upper half of ROM.
-pub(crate) const COUNTED_IN_UPPER_ROM: u8 = FIRST_OWN_LOOP + 6;
-
-/// The loop of counted steps above ROM.
-pub(crate) const COUNTED_ABOVE_ROM: u8 = FIRST_OWN_LOOP + 7;
-
-/// The loop of watching steps in the lower half of ROM.
-pub(crate) const WATCHING_IN_LOWER_ROM: u8 = FIRST_OWN_LOOP + 8;
-
-/// The loop of watching steps in the upper half of ROM.
-pub(crate) const WATCHING_IN_UPPER_ROM: u8 = FIRST_OWN_LOOP + 9;
-
-/// The loop of watching steps above ROM.
-pub(crate) const WATCHING_ABOVE_ROM: u8 = FIRST_OWN_LOOP + 10;
 
 /// The address of the joypad's register P1.
 const JOYPAD: u16 = 0xff00;
@@ -229,27 +197,6 @@ fn run_fast_steps_here(processor: &mut Processor<Bus>, passed: u32, until: u32) 
     }
 }
 
-/// Whether PC is where this loop runs: where all bytes of an instruction lie in the lower half of ROM,
-/// in the upper half, in WRAM, in HRAM, or above ROM. A loop that runs only there need not test it for
-/// each byte.
-#[inline(always)]
-pub(crate) fn is_there<const LOOP: u8>(pc: u16) -> bool {
-    if LOOP == IN_LOWER_ROM || LOOP == COUNTED_IN_LOWER_ROM || LOOP == WATCHING_IN_LOWER_ROM {
-        pc < 0x3ffe
-    } else if LOOP == IN_UPPER_ROM
-        || LOOP == COUNTED_IN_UPPER_ROM
-        || LOOP == WATCHING_IN_UPPER_ROM
-    {
-        pc >= 0x4000 && pc < 0x7ffe
-    } else if LOOP == IN_WRAM {
-        pc >= 0xc000 && pc < 0xdffe
-    } else if LOOP == IN_HRAM {
-        pc >= 0xff80 && pc < 0xfffd
-    } else {
-        pc >= 0x8000
-    }
-}
-
 /// Makes fast steps until M-cycle `until` of the frame, while PC is where this loop runs, and one step if
 /// it is elsewhere. Each loop has a function of its own: in one with all loops the compiler would keep
 /// addresses in registers that each loop needs.
@@ -310,7 +257,7 @@ fn run_calm_steps<const LOOP: u8>(
             left: fewer,
             is_fast,
             is_calm,
-        } = run_fast_step::<LOOP>(processor, opcode, false, left, end);
+        } = run_fast_step::<FrameLoops, LOOP>(processor, opcode, false, left, end);
         if !is_calm {
             return (now, is_fast);
         }
@@ -337,7 +284,7 @@ pub(crate) struct AfterStep {
 /// Makes a fast step, the opcode of which the caller has read, where `left` M-cycles are known to be
 /// calm, which end with M-cycle `end` of the frame. After it the caller's loop ends if it is the last.
 #[inline(always)]
-pub(crate) fn run_fast_step<const LOOP: u8>(
+pub(crate) fn run_fast_step<C, const LOOP: u8>(
     processor: &mut Processor<Bus>,
     opcode: u8,
     is_last: bool,
@@ -360,7 +307,7 @@ pub(crate) fn run_fast_step<const LOOP: u8>(
     ensures calm_more { result.is_calm ≡ true → is_last ≡ false }
     ensures fast_more { result.is_fast ≡ true → is_last ≡ false }
 {
-    let (cycles, usual, is_memory_kept) = processor.run_opcode::<LOOP>(opcode);
+    let (cycles, usual, is_memory_kept) = processor.run_opcode::<C, LOOP>(opcode);
     if !usual {
         pass_out_of_line(processor, cycles as u8);
         return AfterStep {

@@ -8,6 +8,7 @@ mod counting_loop;
 mod frame;
 pub mod input;
 pub mod laws;
+mod loops;
 pub mod machine;
 pub mod machine_without_memory;
 mod passing;

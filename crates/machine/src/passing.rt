@@ -10,10 +10,8 @@ ghost use Rattle.sm83_processor.specs.Steps.{step_of};
 ghost use Rattle.sm83_processor.specs.declared.processor.Processor.{Processor};
 ghost use Rattle.sm83_processor.specs.declared.step.StepKind.{StepKind};
 
-use crate::frame::{
-    AfterStep, WATCHING_ABOVE_ROM, WATCHING_IN_LOWER_ROM, WATCHING_IN_UPPER_ROM, is_there,
-    run_fast_step,
-};
+use crate::frame::{AfterStep, run_fast_step};
+use crate::loops::{ABOVE_ROM, IN_LOWER_ROM, IN_UPPER_ROM, is_there};
 use crate::steps::calm_within;
 use crate::watch::Watch;
 use memory_map::Bus;
@@ -72,12 +70,12 @@ fn run_watching_here<W: Watch>(
     ensures most { result.0 ≤ most }
     ensures fast { result.1 ≡ true → IsFast bus_rules processor.new }
 {
-    if is_there::<WATCHING_IN_LOWER_ROM>(processor.registers.pc) {
-        run_watching_by::<W, WATCHING_IN_LOWER_ROM>(processor, kept, made, most, watch)
-    } else if is_there::<WATCHING_IN_UPPER_ROM>(processor.registers.pc) {
-        run_watching_by::<W, WATCHING_IN_UPPER_ROM>(processor, kept, made, most, watch)
+    if is_there::<IN_LOWER_ROM>(processor.registers.pc) {
+        run_watching_by::<W, IN_LOWER_ROM>(processor, kept, made, most, watch)
+    } else if is_there::<IN_UPPER_ROM>(processor.registers.pc) {
+        run_watching_by::<W, IN_UPPER_ROM>(processor, kept, made, most, watch)
     } else {
-        run_watching_by::<W, WATCHING_ABOVE_ROM>(processor, kept, made, most, watch)
+        run_watching_by::<W, ABOVE_ROM>(processor, kept, made, most, watch)
     }
 }
 
@@ -156,7 +154,7 @@ fn run_calm_watching<W: Watch, const LOOP: u8>(
             left: fewer,
             is_fast,
             is_calm,
-        } = run_fast_step::<LOOP>(processor, opcode, false, left, end);
+        } = run_fast_step::<W, LOOP>(processor, opcode, false, left, end);
         made += 1;
         if !is_calm {
             return (made, is_fast);

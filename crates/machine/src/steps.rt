@@ -7,10 +7,8 @@ ghost use Rattle.memory_map.specs.BusRules.{bus_rules};
 ghost use Rattle.sm83_processor.specs.FastStep.{IsFast};
 ghost use Rattle.sm83_processor.specs.Steps.{after_steps};
 
-use crate::frame::{
-    AfterStep, COUNTED_ABOVE_ROM, COUNTED_IN_LOWER_ROM, COUNTED_IN_UPPER_ROM, FRAME, is_there,
-    run_fast_step,
-};
+use crate::frame::{AfterStep, FRAME, run_fast_step};
+use crate::loops::{ABOVE_ROM, CountedLoops, IN_LOWER_ROM, IN_UPPER_ROM, is_there};
 use memory_map::Bus;
 use sm83_processor::Processor;
 
@@ -67,12 +65,12 @@ fn run_fast_counted_here(processor: &mut Processor<Bus>, left: u32) -> (u32, boo
     ensures fewer { result.0 < left }
     ensures fast { result.1 ≡ true → IsFast bus_rules processor.new }
 {
-    if is_there::<COUNTED_IN_LOWER_ROM>(processor.registers.pc) {
-        run_fast_counted_by::<COUNTED_IN_LOWER_ROM>(processor, left)
-    } else if is_there::<COUNTED_IN_UPPER_ROM>(processor.registers.pc) {
-        run_fast_counted_by::<COUNTED_IN_UPPER_ROM>(processor, left)
+    if is_there::<IN_LOWER_ROM>(processor.registers.pc) {
+        run_fast_counted_by::<IN_LOWER_ROM>(processor, left)
+    } else if is_there::<IN_UPPER_ROM>(processor.registers.pc) {
+        run_fast_counted_by::<IN_UPPER_ROM>(processor, left)
     } else {
-        run_fast_counted_by::<COUNTED_ABOVE_ROM>(processor, left)
+        run_fast_counted_by::<ABOVE_ROM>(processor, left)
     }
 }
 
@@ -123,7 +121,7 @@ fn run_calm_counted<const LOOP: u8>(processor: &mut Processor<Bus>, left: u32) -
             left: fewer,
             is_fast,
             is_calm,
-        } = run_fast_step::<LOOP>(processor, opcode, false, calm, end);
+        } = run_fast_step::<CountedLoops, LOOP>(processor, opcode, false, calm, end);
         left -= 1;
         if !is_calm {
             return (left, is_fast);

@@ -10,9 +10,9 @@ ghost use Rattle.machine.specs.Watching.{in_frame, IsFar, IsSilent};
 ghost use Rattle.sm83_processor.specs.FastStep.{IsFast};
 ghost use Rattle.sm83_processor.specs.Steps.{step_of};
 
-use crate::frame::{
-    ABOVE_ROM, AfterStep, FRAME, IN_HRAM, IN_LOWER_ROM, IN_UPPER_ROM, IN_WRAM, is_there,
-    run_fast_step, sure_waits, waits,
+use crate::frame::{AfterStep, FRAME, run_fast_step, sure_waits, waits};
+use crate::loops::{
+    ABOVE_ROM, IN_HRAM, IN_LOWER_ROM, IN_UPPER_ROM, IN_WRAM, WatchedLoops, is_there,
 };
 use crate::machine::Machine;
 use crate::untimed::UntimedBus;
@@ -486,7 +486,7 @@ fn run_calm_unseen<const LOOP: u8>(processor: &mut Processor<Bus>, passed: u32) 
             left: fewer,
             is_fast,
             is_calm,
-        } = run_fast_step::<LOOP>(processor, opcode, breaks, left, end);
+        } = run_fast_step::<WatchedLoops, LOOP>(processor, opcode, breaks, left, end);
         if !is_calm {
             return Went {
                 passed: now,

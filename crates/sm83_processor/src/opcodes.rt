@@ -33,17 +33,17 @@ pub const FIRST_OWN_LOOP: u8 = 1;
 impl<M: Memory> Processor<M> {
     /// Executes the instruction of this opcode, with PC still at the opcode. Returns its M-cycles,
     /// whether the next step is fast as well, unless an interrupt comes, and whether it is sure to
-    /// have left the memory as it was. `LOOP` names the caller's loop: code is made separately for
-    /// each, so that it can be inlined there.
+    /// have left the memory as it was. `C`, a type of the caller's, and `LOOP` name the caller's loop: code is
+    /// made separately for each pair, so that it can be inlined where no other loop has the same.
     #[inline(always)]
-    pub fn run_opcode<const LOOP: u8>(&mut self, opcode: u8) -> (u32, bool, bool)
+    pub fn run_opcode<C, const LOOP: u8>(&mut self, opcode: u8) -> (u32, bool, bool)
         ensures after { self.new ≡ executed_after_fetch M.rules (instruction_at M.rules opcode (after_fetch self.old)) (after_fetch self.old) }
         ensures cycles { result.0 ≡ cycles_with (instruction_at M.rules opcode (after_fetch self.old)) self.old.registers.flags }
         ensures few { result.0 ≤ 6 }
         ensures usual { result.1 ≡ true → IsUsual self.old.state → IsUsual self.new.state }
         ensures memory { result.2 ≡ true → self.new.memory ≡ self.old.memory }
     {
-        let cycles = self.run_instruction::<LOOP>(opcode);
+        let cycles = self.run_instruction::<C, LOOP>(opcode);
         match opcode {
             STOP | HALT | ENABLE_INTERRUPTS => (cycles, false, false),
             0xd3 | 0xdb | 0xdd | 0xe3 | 0xe4 | 0xeb | 0xec | 0xed | 0xf4 | 0xfc | 0xfd => {
@@ -60,7 +60,7 @@ impl<M: Memory> Processor<M> {
         ensures cycles { result ≡ cycles_with (instruction_at M.rules opcode (after_any_fetch self.old)) self.old.registers.flags }
     {
         self.end_halt_bug();
-        self.run_opcode::<ANY_STEP>(opcode).0 as u8
+        self.run_opcode::<(), ANY_STEP>(opcode).0 as u8
     }
 
     /// Ends `halt_bug`, with PC at the address before that of the next byte to fetch.
@@ -78,7 +78,7 @@ impl<M: Memory> Processor<M> {
     /// M-cycles. One match on all opcodes makes one jump to code in which all but the bytes after
     /// the opcode is fixed.
     #[inline(always)]
-    fn run_instruction<const LOOP: u8>(&mut self, opcode: u8) -> u32
+    fn run_instruction<C, const LOOP: u8>(&mut self, opcode: u8) -> u32
         ensures { Executes M.rules (instruction_at M.rules opcode (after_fetch self.old)) self.old self.new result }
     {
         match opcode {
@@ -285,7 +285,7 @@ impl<M: Memory> Processor<M> {
             0xc8 => self.run_fixed::<0xc8>(),
             0xc9 => self.run_fixed::<0xc9>(),
             0xca => self.run_fixed::<0xca>(),
-            0xcb => self.run_prefixed::<LOOP>(self.low()),
+            0xcb => self.run_prefixed::<C, LOOP>(self.low()),
             0xcc => self.run_fixed::<0xcc>(),
             0xcd => self.run_fixed::<0xcd>(),
             0xce => self.run_fixed::<0xce>(),
@@ -437,13 +437,13 @@ impl<M: Memory> Processor<M> {
     /// Executes the instruction of an opcode CB and this byte, and returns its M-cycles. In a
     /// caller's own loop it is in line, since a call costs as much as most of these instructions.
     #[inline(always)]
-    fn run_prefixed<const LOOP: u8>(&mut self, byte: u8) -> u32
+    fn run_prefixed<C, const LOOP: u8>(&mut self, byte: u8) -> u32
         ensures { Executes M.rules (bit_instruction (byte / 64) (byte % 8) (byte / 8 % 8)) self.old self.new result }
     {
         if LOOP == ANY_STEP {
             self.run_bit_opcode_out_of_line(byte)
         } else {
-            self.run_bit_opcode::<LOOP>(byte)
+            self.run_bit_opcode::<C, LOOP>(byte)
         }
     }
 
@@ -451,13 +451,13 @@ impl<M: Memory> Processor<M> {
     fn run_bit_opcode_out_of_line(&mut self, byte: u8) -> u32
         ensures { Executes M.rules (bit_instruction (byte / 64) (byte % 8) (byte / 8 % 8)) self.old self.new result }
     {
-        self.run_bit_opcode::<ANY_STEP>(byte)
+        self.run_bit_opcode::<(), ANY_STEP>(byte)
     }
 
     /// Executes the instruction of an opcode CB and this byte, and returns its M-cycles. One match on
     /// all bytes makes one jump to code in which the number and the operand are fixed.
     #[inline(always)]
-    fn run_bit_opcode<const LOOP: u8>(&mut self, byte: u8) -> u32
+    fn run_bit_opcode<C, const LOOP: u8>(&mut self, byte: u8) -> u32
         ensures { Executes M.rules (bit_instruction (byte / 64) (byte % 8) (byte / 8 % 8)) self.old self.new result }
     {
         match byte {

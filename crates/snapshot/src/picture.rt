@@ -8,6 +8,7 @@ ghost use Rattle.snapshot.specs.Reading.{shade_in, row_in};
 use picture_unit::LatePicture;
 
 /// A byte of four shades, from column 4 times `place` on.
+#[inline(always)]
 fn byte_of_four(row: &[u8; 160], place: usize) -> u8
     requires place { place < 40 }
     requires shades { All (λ shade. shade < 4) row.now }
@@ -22,16 +23,16 @@ pub(crate) fn write_picture(picture: &LatePicture, out: &mut [u8])
     ensures bytes { out.new ≡ picture_bytes picture.now.rows }
     ensures rows { (y : ℕ) → y < 144 → IsRow (slice_index_or picture.now.rows y []) }
 {
-    let mut row = [0; 160];
-    for k in 0..out.len() {
-        if k % 40 == 0 {
-            row = picture.row(k / 40);
+    for y in 0..144 {
+        let row = picture.row(y);
+        for place in 0..40 {
+            out[40 * y + place] = byte_of_four(&row, place);
         }
-        out[k] = byte_of_four(&row, k % 40);
     }
 }
 
 /// A shade of a byte of four.
+#[inline(always)]
 fn shade_in(byte: u8, place: usize) -> u8
     ensures shade { result ≡ shade_in byte place }
     ensures small { result < 4 }
@@ -51,8 +52,12 @@ pub(crate) fn row_in(picture: &[u8], y: usize) -> [u8; 160]
     ensures { result ≡ row_in picture.now y }
 {
     let mut row = [0; 160];
-    for x in 0..160 {
-        row[x] = shade_in(picture[40 * y + x / 4], x % 4);
+    for place in 0..40 {
+        let four = picture[40 * y + place];
+        row[4 * place] = shade_in(four, 0);
+        row[4 * place + 1] = shade_in(four, 1);
+        row[4 * place + 2] = shade_in(four, 2);
+        row[4 * place + 3] = shade_in(four, 3);
     }
     row
 }

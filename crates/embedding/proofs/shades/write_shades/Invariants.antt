@@ -1,10 +1,12 @@
-use Rattle.std.proofs.Common.{◌≡◌, ◌-◌, ◌<◌, ℕ, ◌/◌, ◌%◌, [], get_or}
-use Rattle.machine.specs.Legal.{IsRow}
+use Rattle.std.proofs.Common.{◌≡◌, ◌-◌, ◌<◌, ℕ, ◌+◌, ◌*◌, ◌/◌, ◌%◌, [], get_or, All}
 use Rattle.embedding.proofs.shades.write_shades.Given as goal
 
-abbrev pub invariant-loop-k : goal.invariant-loop-k
-invariant-loop-k l = record {
-  done : (k : ℕ) → k < l.k → get_or l.out k 0 ≡ 3 - get_or (get_or l.picture.rows (k / 160) []) (k % 160) 0;
-  row : 0 < l.k % 160 → get_or l.picture.rows (l.k / 160) [] ≡ l.row;
-  right : IsRow l.row;
+abbrev pub invariant-loop-y : goal.invariant-loop-y
+invariant-loop-y l = (k : ℕ) → k < 160 * l.y → get_or l.out k 0 ≡ 3 - get_or (get_or l.picture.rows (k / 160) []) (k % 160) 0
+
+abbrev pub invariant-loop-x : goal.invariant-loop-x
+invariant-loop-x l = record {
+  done : (k : ℕ) → k < 160 * l.y + l.x → get_or l.out k 0 ≡ 3 - get_or (get_or l.picture.rows (k / 160) []) (k % 160) 0;
+  row : get_or l.picture.rows l.y [] ≡ l.row;
+  shades : All (λ shade. shade < 4) l.row;
 }

@@ -2,8 +2,8 @@ use Rattle.std.proofs.Common.{◌≡◌, ◌<◌, ℕ, ◌+◌, ◌*◌, ◌/◌
 use Rattle.snapshot.specs.Reading.{shade_in}
 use Rattle.snapshot.proofs.picture.row_in.Given as goal
 
-abbrev pub invariant-loop-x : goal.invariant-loop-x
-invariant-loop-x l = record {
+abbrev pub invariant-loop-place : goal.invariant-loop-place
+invariant-loop-place l = record {
   columns : length l.row ≡ 160;
-  done : (k : ℕ) → k < l.x → get_or l.row k 0 ≡ shade_in (get_or l.picture (40 * l.y + k / 4) 0) (k % 4);
+  done : (k : ℕ) → k < 4 * l.place → get_or l.row k 0 ≡ shade_in (get_or l.picture (40 * l.y + k / 4) 0) (k % 4);
 }

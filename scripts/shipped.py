@@ -1,0 +1,258 @@
+"""What a frame and its picture cost in what ships: the host's instructions in the program, in the library and in the libretro core.
+
+usage: shipped.py GBKEEP [LIBRARY CORE] [--keep]
+       shipped.py gate GBKEEP [LIBRARY CORE]
+
+GBKEEP is the proved program before it is stripped; LIBRARY is a folder with libgbkeep.a and libgbkeep.so, CORE is gbkeep_libretro.so.
+
+Callgrind counts the instructions, as the difference of two plays of a ROM of examples/speed of which one has more frames, by its frames; they
+repeat, where times don't. The program plays a script; library and core play in shipped_player.c, which costs some hundred instructions a frame. With a
+picture, the program draws one in `stream` behind each frame, and the library and the core hand one out; with a state, the program keeps one in `debug` and goes
+back to it, and the library and the core hand one out and take it back. How many frames come in a second of processor time is the program's, the best of three. --keep writes docs/speed.csv, which speed_chart.py draws.
+
+`gate` counts a few ROMs, and fails where a frame costs more than a twentieth above its row of docs/speed.csv. It also looks at the code of program and
+library: the loops in which most instructions are made have the match on all opcodes in line, and a loop that is missing or that calls it fails. It ends with a
+line for each thing that it could not try, in the form `not tried: ..`."""
+import csv
+import os
+import re
+import resource
+import shutil
+import subprocess
+import sys
+import tempfile
+from pathlib import Path
+
+from examples.speed import build
+
+ROOT = Path(__file__).resolve().parent.parent
+PLAYER = Path(__file__).with_name('shipped_player.c')
+TABLE = ROOT / 'docs/speed.csv'
+HEAD = ['name', 'what', 'of', 'program', 'library', 'core', 'a second']
+WARM, MANY = 20, 40
+# where each line has an interrupt, the first frames are not like the others
+LONG = {'mode_0': 200, 'mode_0_halt': 200, 'mode_2_halt': 200, 'lyc': 200, 'lyc_halt': 200, 'read_stat': 200, 'wave': 200}
+# what is done behind each frame, of which ROM, and what it is beside
+MORE = {
+    'picture_dark': ('dark', 'picture', 'frame', 'a picture of which no row is drawn, LCD off'),
+    'picture_busy': ('busy', 'picture', 'frame', 'a picture where nothing changes'),
+    'picture_scrolling': ('scrolling', 'picture', 'frame', 'a picture where each row changes'),
+    'state_busy': ('busy', 'state', 'debug', 'a state, taken and given back'),
+}
+# what a frame does in most games, and each as dear as it is
+GATE = ('busy', 'compiled', 'scrolling', 'raster', 'game', 'unpack', 'picture_scrolling', 'state_busy')
+MOST = 1.05
+# the loops in which most instructions are made, and how many copies of each there are: one for each place of PC, and for each watch
+LOOPS = {'program': {'run_fast_steps_by': 5, 'run_fast_counted_by': 3, 'run_fast_unseen_by': 5, 'run_watching_by': 18}, 'library': {'run_fast_steps_by': 5}}
+MATCH = re.compile(r'::run_(instruction|opcode|bit_opcode)(::<|$)')
+
+
+def run(words, text=b''):
+    return subprocess.run([str(word) for word in words], input=text, capture_output=True, check=True)
+
+
+def instructions(words, text=b''):
+    done = run(['valgrind', '--tool=callgrind', '--callgrind-out-file=/dev/null', *words], text)
+    return int(re.search(rb'Collected : (\d+)', done.stderr)[1])
+
+
+def seconds(words, text=b''):
+    """The processor time, the least of three, since whatever else the computer does only adds to it."""
+    def spent():
+        used = resource.getrusage(resource.RUSAGE_CHILDREN)
+        return used.ru_utime + used.ru_stime
+
+    def once():
+        before = spent()
+        run(words, text)
+        return spent() - before
+    return min(once() for _ in range(3))
+
+
+class Program:
+    """Plays a cartridge by the program."""
+
+    def __init__(self, path, room):
+        self.path, self.save, self.script = path, room / 'counted.gbkeep', room / 'counted.script'
+
+    def command(self, cart, frames, kind):
+        """The words of a play, and its input."""
+        if kind in ('state', 'debug'):
+            return [self.path, 'debug', cart], {'state': b'frame 00\nkeep 1\nback 1\n', 'debug': b'frame 00\n'}[kind] * frames
+        self.save.unlink(missing_ok=True)
+        run([self.path, 'new', cart, self.save])
+        if kind == 'picture':
+            return [self.path, 'stream', cart, self.save], b'frame 00\npicture\n' * frames
+        self.script.write_text(f'frames 00 {frames}\n')
+        return [self.path, 'play', cart, self.save, self.script], b''
+
+
+class Shared:
+    """Plays it by a shared object, in the player."""
+
+    def __init__(self, player, path, room):
+        self.player, self.path, self.room = player, path, room
+
+    def command(self, cart, frames, kind):
+        # the core keeps its game beside the cartridge
+        for old in self.room.glob('counted.gb*'):
+            old.unlink()
+        played = self.room / 'counted.gb'
+        shutil.copyfile(cart, played)
+        return [self.player, self.path, played, str(frames), *([kind] if kind in ('picture', 'state') else [])], b''
+
+
+def frame(of, cart, name, kind='frame'):
+    """What one more frame costs, with what is done behind it."""
+    first = 100 if name in LONG else WARM
+    many = LONG.get(name, MANY)
+    return round((instructions(*of.command(cart, first + many, kind)) - instructions(*of.command(cart, first, kind))) / many)
+
+
+def a_second(program, cart, counted):
+    """How many frames the program plays in a second of processor time: as many are timed as have some 1,500 million instructions."""
+    many = round(1.5e9 / counted)
+    spent = seconds(*program.command(cart, WARM + many, 'frame')) - seconds(*program.command(cart, WARM, 'frame'))
+    return round(many / spent) if spent > 0 else None
+
+
+def ships(words, room):
+    """What plays, by its name in the table, and what could not be tried."""
+    program = words[0]
+    found, lacking = {'program': Program(program, room)}, []
+    compiler = os.environ.get('CC', 'cc')
+    if len(words) < 3:
+        return found, ['the speed of library and core: they were not built']
+    if not shutil.which(compiler):
+        return found, ['the speed of library and core: there is no C compiler']
+    player = room / 'player'
+    run([compiler, '-std=gnu11', '-O2', '-Wall', '-Wextra', '-o', player, PLAYER, '-ldl'])
+    for name, path in (('library', Path(words[1], 'libgbkeep.so')), ('core', Path(words[2]))):
+        if path.exists():
+            found[name] = Shared(player, path, room)
+        else:
+            lacking.append(f'the speed of the {name}: {path} is not there')
+    return found, lacking
+
+
+# ---- the code
+
+def functions(path):
+    """The functions of a program or an archive, each its name and the names that it calls."""
+    told = subprocess.run(['objdump', '-dr', '--no-show-raw-insn', path], capture_output=True, text=True, check=True).stdout
+    found, calls = [], set()
+    for line in told.splitlines():
+        head = re.match(r'[0-9a-f]+ <(.+)>:$', line)
+        if head:
+            calls = set()
+            found.append((head[1], calls))
+            continue
+        # a call of what is linked, and one of an archive, whose place is filled in later
+        called = re.search(r'\b(?:call|jmp)q? +[0-9a-f]+ <(.+)>$', line) or re.search(r'\bR_X86_64_PLT32\t(.+)-0x4$', line)
+        if called and not re.search(r'\+0x[0-9a-f]+$', called[1]):
+            calls.add(called[1])
+    return found
+
+
+def wrong_loops(path, wanted):
+    """What is wrong with the hot loops of a file, a line each."""
+    found = functions(path)
+    for loop, count in wanted.items():
+        copies = [(name, calls) for name, calls in found if loop in name]
+        if len(copies) != count:
+            yield f'{path}: {len(copies)} copies of the loop {loop}, where {count} are expected'
+        for name, calls in copies:
+            for called in sorted(calls):
+                if MATCH.search(called):
+                    yield f'{path}: the loop {name} calls {called}, which was in line'
+
+
+# ---- the two ways to call it
+
+def cost(of, carts, name):
+    """What a row of the table counts: a frame, or what is done behind it."""
+    if name not in MORE:
+        return frame(of, carts[name], name)
+    rom, kind, beside, _ = MORE[name]
+    return frame(of, carts[rom], rom, kind) - frame(of, carts[rom], rom, beside)
+
+
+def rows(found, carts):
+    for name in [*carts, *MORE]:
+        counts = [cost(found[by], carts, name) if by in found else None for by in HEAD[3:6]]
+        if name in MORE:
+            yield [name, MORE[name][3], 'more', *counts, None]
+        else:
+            yield [name, build.what(name), 'a frame', *counts, a_second(found['program'], carts[name], counts[0])]
+
+
+def shown(row):
+    numbers = ['' if one is None else f'{one:,}' for one in row[3:]]
+    return f'{row[1]:92} {row[2]:8} ' + ' '.join(f'{one:>11}' for one in numbers)
+
+
+def count(words, is_kept):
+    if not shutil.which('valgrind'):
+        sys.exit('shipped.py: valgrind is missing: install valgrind')
+    print(f'{"":101} ' + ' '.join(f'{one:>11}' for one in HEAD[3:]))
+    with tempfile.TemporaryDirectory(prefix='speed-') as folder:
+        room = Path(folder)
+        found, lacking = ships(words, room)
+        if is_kept and lacking:
+            sys.exit('shipped.py: --keep needs all that ships: ' + '; '.join(lacking))
+        kept = []
+        for row in rows(found, build.write(room / 'roms')):
+            kept.append(row)
+            print(shown(row), flush=True)
+    for line in lacking:
+        print(f'not tried: {line}')
+    if is_kept:
+        new = TABLE.with_name('.speed.csv.new')
+        with open(new, 'w', newline='') as file:
+            csv.writer(file, lineterminator='\n').writerows([HEAD, *kept])
+        os.replace(new, TABLE)
+
+
+def gate(words):
+    wrong, lacking = [], []
+    with tempfile.TemporaryDirectory(prefix='speed-') as folder:
+        room = Path(folder)
+        if shutil.which('valgrind'):
+            with open(TABLE, newline='') as file:
+                known = {row['name']: row for row in csv.DictReader(file)}
+            found, lacking = ships(words, room)
+            carts = build.write(room / 'roms')
+            for name in GATE:
+                counts = {by: cost(of, carts, name) for by, of in found.items()}
+                print(f'{name}: ' + ', '.join(f'{one:,} by the {by}' for by, one in counts.items()), flush=True)
+                for by, one in counts.items():
+                    if one > MOST * int(known[name][by]):
+                        wrong.append(f'{name} by the {by} costs {one:,} instructions, and {int(known[name][by]):,} in {TABLE.name}')
+        else:
+            lacking.append('the speed of what ships: there is no valgrind')
+        if shutil.which('objdump'):
+            wrong += wrong_loops(words[0], LOOPS['program'])
+            if len(words) > 1 and Path(words[1], 'libgbkeep.a').exists():
+                wrong += wrong_loops(Path(words[1], 'libgbkeep.a'), LOOPS['library'])
+        else:
+            lacking.append('the loops of what ships: there is no objdump (binutils)')
+    for line in lacking:
+        print(f'not tried: {line}')
+    if wrong:
+        sys.exit('\n'.join(f'shipped.py: {line}' for line in wrong))
+
+
+def main():
+    words = [word for word in sys.argv[1:] if word != '--keep']
+    is_gate = words[:1] == ['gate']
+    paths = [os.path.abspath(word) for word in words[1 if is_gate else 0:]]
+    if len(paths) not in (1, 3) or (is_gate and '--keep' in sys.argv):
+        sys.exit(__doc__)
+    if is_gate:
+        gate(paths)
+    else:
+        count(paths, '--keep' in sys.argv)
+
+
+if __name__ == '__main__':
+    main()
