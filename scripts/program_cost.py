@@ -131,7 +131,8 @@ def main():
             lines = (until, lambda many: b'until-op %d 40\n' % many, lambda many: b'until-change %d C000\n' % many,
                      lambda many: b'until-write %d C000 CFFF\n' % many, lambda many: b'until-read %d C000\n' % many)
             counts = [step_instructions(gbkeep, loop, line) for line in lines]
-            print('debug: %.1f instructions a step of until, %.1f of until-op, %.1f of until-change, %.1f of until-write, %.1f of until-read' % tuple(counts))
+            print('debug: %.1f instructions a step of until, %.1f of until-op, %.1f of until-change, %.1f of until-write, %.1f of until-read'
+                  % tuple(counts))
     return 0
 
 

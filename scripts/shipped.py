@@ -7,8 +7,9 @@ GBKEEP is the proved program before it is stripped; LIBRARY is a folder with lib
 
 Callgrind counts the instructions, as the difference of two plays of a ROM of examples/speed of which one has more frames, by its frames; they
 repeat, where times don't. The program plays a script; library and core play in shipped_player.c, which costs some hundred instructions a frame. With a
-picture, the program draws one in `stream` behind each frame, and the library and the core hand one out; with a state, the program keeps one in `debug` and goes
-back to it, and the library and the core hand one out and take it back. How many frames come in a second of processor time is the program's, the best of three. --keep writes docs/speed.csv, which speed_chart.py draws.
+picture, the program draws one in `stream` behind each frame, and the library and the core hand one out; with a state, the program keeps one in `debug` and
+goes back to it, and the library and the core hand one out and take it back. How many frames come in a second of processor time is the program's, the best
+of three. --keep writes docs/speed.csv, of which speed_chart.py makes a picture and tables.
 
 `gate` counts a few ROMs, and fails where a frame costs more than a twentieth above its row of docs/speed.csv. It also looks at the code of program and
 library: the loops in which most instructions are made have the match on all opcodes in line, and a loop that is missing or that calls it fails. It ends with a
