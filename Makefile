@@ -1,6 +1,8 @@
 # gbkeep: make help lists the targets.
 RT ?= rt
 PREFIX ?= $(HOME)/.local
+# where libraries are installed: as seen from PREFIX, or absolute
+LIBDIR ?= lib
 PROGRAM := crates/gbkeep_program
 # empty, or arm64: what is built for it lies in bin/arm64
 ARCH ?=
@@ -22,7 +24,9 @@ help:
 	@echo '                       python3-pil)'
 	@echo '  make play            plays a cartridge in a window (CART=examples/demo/demo.gb SAVE=NAME.gbkeep; without SAVE, the game is kept in'
 	@echo '                       ~/.local/share/gbkeep; needs python3-pygame)'
-	@echo '  make install         puts program, window, tools, man page and completion below PREFIX (PREFIX=$(PREFIX))'
+	@echo '  make install         puts program, window, tools, man pages and completions below PREFIX (PREFIX=$(PREFIX)), and what else'
+	@echo '                       is built of the library and the core (LIBDIR=$(LIBDIR), as seen from PREFIX; DESTDIR=: a folder to stage it in)'
+	@echo '  make uninstall       removes what make install puts there (with the same PREFIX, LIBDIR and DESTDIR)'
 	@echo '  make libretro        proves the library, and leaves bin/gbkeep_libretro.so, a core for RetroArch and its kind (needs a C compiler and'
 	@echo '                       retroarch-dev)'
 	@echo '  make library         proves the library for C, and leaves bin/libgbkeep.a, bin/libgbkeep.so, bin/gbkeep.h and bin/gbkeep.pc (needs a C'
@@ -79,7 +83,10 @@ bin/arm64/gbkeep: $(SOURCES) $(BY_ARM64) library/heap.c
 build: $(OUT)/gbkeep
 
 install: $(OUT)/gbkeep
-	python3 -B packaging/installed.py --destdir "$(DESTDIR)" "$(PREFIX)"
+	@python3 -B packaging/installed.py --destdir "$(DESTDIR)" --libdir "$(LIBDIR)" --built $(OUT) "$(PREFIX)"
+
+uninstall:
+	@python3 -B packaging/installed.py --remove --destdir "$(DESTDIR)" --libdir "$(LIBDIR)" "$(PREFIX)"
 
 check:
 ifdef CRATE
@@ -201,6 +208,7 @@ test:
 	@$(MAKE) --no-print-directory lint
 	RT=$(RT) sh scripts/opened_has_no_append.sh
 	python3 -B scripts/front_door.py
+	python3 -B packaging/completions.py check
 	python3 -B scripts/refusals.py
 	python3 -B scripts/definitions.py public
 	python3 -B scripts/unused_names.py
@@ -219,6 +227,8 @@ test:
 	python3 -B python/gbkeep_tests/test_window_parts.py
 	python3 -B python/gbkeep_tests/test_package.py
 	$(PIL_PYTHON) -B python/gbkeep_tests/test_pictures.py
+	CC="$(CC)" python3 -B packaging/test_installed.py
+	python3 -B packaging/test_completions.py
 	python3 -B web/test_module.py
 	if command -v $(CC) > /dev/null; then RT=$(RT) CC="$(CC)" python3 -B scripts/library.py gate && \
 	CC="$(CC)" python3 -B library/test_library.py $(PROGRAM)/out/gbkeep_program; else echo 'there is no C compiler: the library was not tried'; fi
@@ -243,4 +253,4 @@ test:
 	python3 -B scripts/second_storage/refused_memory.py $(PROGRAM)/out/gbkeep_program crates/refused_memory/out/refused_memory
 	RT=$(RT) python3 -B packaging/dist.py passed $(PROGRAM)/out/gbkeep_program
 
-.PHONY: help build demo play install libretro dist run check edits lint test bench compare hostile fuzz strace memory test-window test-libretro library test-library test-arm64 test-packages test-reproducible test-slow-disk test-retroarch test-cards web test-web
+.PHONY: help build demo play install uninstall libretro dist run check edits lint test bench compare hostile fuzz strace memory test-window test-libretro library test-library test-arm64 test-packages test-reproducible test-slow-disk test-retroarch test-cards web test-web

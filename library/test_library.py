@@ -1,10 +1,11 @@
-"""Tests of libgbkeep as it is built: in C by examples/library/play.c, killed at each call, and in Python.
+"""Tests of libgbkeep as it is built: in C by examples/library/play.c, linked in each way and killed at each call, and in Python.
 
-usage: test_library.py GBKEEP [LIBRARY]     LIBRARY: a folder with libgbkeep.a, libgbkeep.so and gbkeep.h (bin of the clone)
+usage: test_library.py GBKEEP [LIBRARY]     LIBRARY: a folder with all that `make library` leaves (bin of the clone)
 
 CC names the C compiler. Where it has the sanitizers, play.c is built with them."""
 import os
 import random
+import shlex
 import shutil
 import subprocess
 import sys
@@ -127,6 +128,27 @@ class Playing(InFolder):
             self.assertEqual(save.read_bytes(), content)
         result = run(self.play, self.script, self.folder / 'new', self.script)
         self.assertEqual((result.returncode, result.stderr.startswith(b'play: rom length: ')), (1, True), result.stderr)
+
+
+class Linked(InFolder):
+    """A program that is linked with the shared library where it lies starts, and plays."""
+    def plays(self, *flags):
+        play = self.folder / 'play'
+        built = run(os.environ.get('CC', 'cc'), '-o', play, TOP / 'examples/library/play.c', *flags)
+        self.assertEqual((built.returncode, built.stderr), (0, b''))
+        result = run(play, DEMO, self.folder / 'save', self.script, env={'PATH': os.environ['PATH']})
+        self.assertEqual((result.returncode, result.stderr, lines_of(result)[0]), (0, b'', 'begun 0'))
+
+    def test_by_its_folder(self):
+        self.plays(f'-I{LIBRARY}', f'-L{LIBRARY}', '-lgbkeep', f'-Wl,-rpath,{LIBRARY}')
+
+    def test_by_its_settings(self):
+        if shutil.which('pkg-config') is None:
+            print('not all was tried: gbkeep.pc: pkg-config is missing')
+            self.skipTest('pkg-config is missing')
+        said = run('pkg-config', '--cflags', '--libs', 'gbkeep', env=dict(os.environ, PKG_CONFIG_PATH=str(LIBRARY)))
+        self.assertEqual((said.returncode, said.stderr), (0, b''))
+        self.plays(*shlex.split(said.stdout.decode()), f'-Wl,-rpath,{LIBRARY}')
 
 
 class InPython(InFolder):

@@ -75,6 +75,20 @@ def libc_needed(data):
     return max((one.decode() for one in versions), key=lambda one: tuple(map(int, one.split('.'))), default='2.0')
 
 
+def asked_for(package):
+    """The packages of Debian that the tools of a package need, and those that they name otherwise; of the package of Python, what its other modules name."""
+    tools = {module: installed.package_of(tool) for tool, module in installed.tools().items()}
+    modules = [path.stem for path in sorted((installed.SOURCES / 'gbkeep').glob('*.py')) if tools.get(path.stem, installed.PYTHON) == package]
+    asked = [installed.asked_for(module) for module in modules]
+    needed = {one for needs, _ in asked for one in needs.values()}
+    return sorted(needed), sorted({one for _, named in asked for one in named} - needed)
+
+
+def relation(name, *packages):
+    """A line of a control file, if it has any package."""
+    return f'{name}: {", ".join(packages)}\n' if packages else ''
+
+
 def packed(data):
     return gzip.compress(data, 9, mtime=0)
 
@@ -109,7 +123,8 @@ class Release:
             self.about += f'proof: {(built / "PROVED").read_text()}'
         self.about += NO_LICENCE
         self.packaged = self.with_program(installed.files(built, lib=f'lib/{self.multiarch}', modules=installed.DEBIAN), self.dynamic)
-        self.plain = self.with_program(installed.files(built, prefix='/usr/local'), self.program) + self.documents('share/doc/gbkeep')
+        # the tarball is copied below any folder
+        self.plain = self.with_program(installed.files(built, prefix='${pcfiledir}/../..'), self.program) + self.documents('share/doc/gbkeep')
         os.environ['SOURCE_DATE_EPOCH'] = str(self.second)
         # as many threads on each computer, since what xz writes depends on that
         os.environ['DPKG_DEB_THREADS_MAX'] = '1'
@@ -118,8 +133,8 @@ class Release:
         return [installed.File(one.package, one.path, data, True) if one.path == 'bin/gbkeep' else one for one in files]
 
     def documents(self, folder):
-        """The pages and examples, as git has them."""
-        names = ['README.md', *map(str, sorted(Path('docs').glob('*.[mp]*'))), *said('git', 'ls-files', 'examples').splitlines()]
+        """The pages with what they lead to, and the examples, as git has them. The man page is installed as one."""
+        names = [name for name in said('git', 'ls-files', 'README.md', 'docs', 'examples').splitlines() if not name.endswith('.1')]
         found = [installed.File('gbkeep', f'{folder}/{name}', Path(name).read_bytes(), bool(os.stat(name).st_mode & 0o100)) for name in names]
         return [*found, installed.File('gbkeep', f'{folder}/BUILT', self.about.encode())]
 
@@ -175,6 +190,7 @@ class Release:
         """A file as a package has it: man pages packed, Python of the system's."""
         if one.path.startswith('share/man/'):
             return installed.File(one.package, f'{one.path}.gz', packed(one.data))
+        # an example that is run
         if one.data.startswith(b'#!/usr/bin/env python3\n'):
             return installed.File(one.package, one.path, one.data.replace(b'#!/usr/bin/env python3', b'#!/usr/bin/python3', 1), one.is_run)
         return one
@@ -188,25 +204,31 @@ class Release:
                      'Description: Game Boy emulator whose save files survive any power cut\n'
                      ' A headless emulator of the Nintendo Game Boy (DMG), each function of which\n is proved to meet its contract. It keeps a game in a save file'
                      ' that no power\n cut can spoil, plays scripts of inputs and writes pictures.\n', self.documents('share/doc/gbkeep'))
-        self.package('python3-gbkeep', f'Section: python\n{every}Depends: gbkeep (= {VERSION}), python3 (>= 3.10)\nRecommends: python3-pil\n'
+        own = f'python3-gbkeep (= {VERSION})'
+        self.package('python3-gbkeep', f'Section: python\n{every}Depends: gbkeep (= {VERSION}), python3 (>= 3.10)\n{relation("Recommends", *asked_for(installed.PYTHON)[1])}'
                      f'Suggests: libgbkeep0 (= {VERSION}), python3-numpy\n'
                      'Description: Game Boy games that survive any power cut, from Python\n'
                      ' The package gbkeep plays a game by the program gbkeep or by its library,\n tries out a machine whose states are kept and taken back, and reads and writes\n'
                      ' scripts, movies and pictures. The tools of gbkeep-window and gbkeep-testers\n are its modules.\n', scripts=compiled('python3-gbkeep'))
-        self.package('gbkeep-window', f'Section: otherosfs\n{every}Depends: python3-gbkeep (= {VERSION}), python3-pil, python3-pygame, python3\n'
-                     'Recommends: desktop-file-utils, shared-mime-info\n'
+        needed, named = asked_for(installed.WINDOW)
+        self.package('gbkeep-window', f'Section: otherosfs\n{every}{relation("Depends", own, *needed, "python3")}'
+                     f'{relation("Recommends", "desktop-file-utils", *named, "shared-mime-info")}'
                      "Description: window and player's tools for gbkeep\n"
                      ' gbkeep-window plays a game of gbkeep by keyboard. gbkeep-script reads scripts\n that are easier to write, gbkeep-rest goes on with a'
                      ' script where a save file\n stands, gbkeep-movie reads and writes movies of other emulators, gbkeep-film\n makes a film of a script or a'
                      ' recording, gbkeep-branch a new game of the first\n inputs of a recording, gbkeep-verify compares a game with its recording,\n gbkeep-battery'
                      ' carries battery files to other emulators and back, and\n gbkeep-png makes a PNG of a picture.\n')
-        self.package('gbkeep-testers', f'Section: devel\n{every}Depends: python3-gbkeep (= {VERSION}), python3-pil, python3\n'
+        needed, named = asked_for(installed.TESTERS)
+        self.package('gbkeep-testers', f'Section: devel\n{every}{relation("Depends", own, *needed, "python3")}{relation("Recommends", *named)}'
                      "Description: runner of test ROMs and debugger's prompt for gbkeep\n"
                      ' gbkeep-run-tests runs test ROMs, folders and lists of them on all\n processors, and writes reports for a CI. gbkeep-debug looks inside a ROM or a\n game by'
                      ' labels and lines of C.\n')
-        has_core = self.package('gbkeep-libretro', f'Section: otherosfs\n{here}Depends: gbkeep (= {VERSION}), libc6 (>= {self.libc("gbkeep-libretro")})\n'
+        # the core starts the program to import a battery file, and for nothing else
+        has_core = self.package('gbkeep-libretro', f'Section: otherosfs\n{here}Depends: libc6 (>= {self.libc("gbkeep-libretro")})\nRecommends: gbkeep (= {VERSION})\n'
                                 'Enhances: kodi, retroarch\nDescription: libretro core for gbkeep\n'
-                                ' RetroArch, Kodi and other front ends play a game of gbkeep by it: it starts the\n proved program on a save file in the front end\'s save folder.\n')
+                                ' RetroArch, Kodi and other front ends play a game of gbkeep by it: the proved\n machine and the proved session, in the front end\'s own process. It keeps the\n'
+                                ' game in a save file in the front end\'s save folder, every second, which no\n power cut can spoil. The program gbkeep imports a battery file of another core\n'
+                                ' for it.\n')
         words = ' The proved machine and the proved session of gbkeep, a Game Boy emulator, for\n programs in C: frames, pictures and states in the same process, and saves that\n'
         library = self.package('libgbkeep0', f'Section: libs\n{here}Multi-Arch: same\nDepends: libc6 (>= {self.libc("libgbkeep0")})\n'
                                f'Description: Game Boy emulator as a library\n{words} survive any power cut on a disk that the program writes.\n',

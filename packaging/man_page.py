@@ -1,5 +1,6 @@
 """The man page of a tool, of what its file says of itself."""
 import ast
+import functools
 import re
 from pathlib import Path
 
@@ -15,17 +16,33 @@ def words(text):
     return re.sub('`([^`]+)`', r'\\fB\1\\fR', roff(text))
 
 
-def page(name, path, version):
-    """The page of the tool that is installed as `name`."""
-    said = ast.get_docstring(ast.parse(Path(path).read_text(encoding='utf-8')))
+@functools.lru_cache(None)
+def said_of(path):
+    """What a file says of itself."""
+    return ast.get_docstring(ast.parse(Path(path).read_text(encoding='utf-8'))) or ''
+
+
+def parts_of(path):
+    """What a tool's file says of itself: first, in one line; its usage, line by line; and the rest."""
+    said = said_of(path)
     if said.count('\nusage: ') != 1:
         raise ValueError(f'{path} has no usage')
     head, _, rest = said.partition('\nusage: ')
     usage, _, more = rest.partition('\n\n')
-    first = ' '.join(head.split())
-    brief = re.split(r'[.:;](?: |$)', first)[0]
-    lines = [f'.TH {name.upper()} 1 "" "gbkeep {version}" "User Commands"', '.SH NAME', f'{roff(name)} \\- {words(brief[0].lower() + brief[1:])}', '.SH SYNOPSIS', '.nf']
-    lines += [roff(line[7:] if line.startswith(' ' * 7) else line) for line in usage.splitlines()]
+    return ' '.join(head.split()), [line[7:] if line.startswith(' ' * 7) else line for line in usage.splitlines()], more
+
+
+def brief(first):
+    """What a tool does, of what its file says first."""
+    return re.split(r'[.:;](?: |$)', first)[0]
+
+
+def page(name, path, version):
+    """The page of the tool that is installed as `name`."""
+    first, usage, more = parts_of(path)
+    does = brief(first)
+    lines = [f'.TH {name.upper()} 1 "" "gbkeep {version}" "User Commands"', '.SH NAME', f'{roff(name)} \\- {words(does[0].lower() + does[1:])}', '.SH SYNOPSIS', '.nf']
+    lines += map(roff, usage)
     lines += ['.fi', '.SH DESCRIPTION', words(first)]
     # what is indented stands as it is
     for part in re.split(r'\n\n+', more.strip('\n')):

@@ -71,7 +71,8 @@ def look(packages):
         run(sys.executable, '-B', 'packaging/installed.py', '--destdir', room, '/usr', cwd=ROOT)
         plain = {path.name for path in Path(room).rglob('*') if not path.is_dir()}
     packed = {Path(path).name for path in owners if '/share/doc/' not in path and not path.endswith('/')}
-    expect('the files of make install', plain ^ {name[:-3] if name.endswith('.1.gz') else name for name in packed}, set())
+    # a package's tools need no help to find the system's Python
+    expect('the files of make install', plain ^ {name[:-3] if name.endswith('.1.gz') else name for name in packed}, {'gbkeep_launcher.py'})
     for name, package in packages.items():
         files = subprocess.run(['dpkg-deb', '--fsys-tarfile', package], capture_output=True, check=True).stdout
         said = subprocess.run(['tar', '-xO', f'./usr/share/doc/{name}/copyright'], input=files, capture_output=True, check=True).stdout.decode()
@@ -122,13 +123,50 @@ def as_older(packages, folder):
     return made
 
 
-def install(system, packages):
+def install(system, packages, *options):
     place = system.root / 'root/packages'
     shutil.rmtree(place, ignore_errors=True)
     place.mkdir(parents=True)
     for package in packages.values():
         shutil.copy(package, place)
-    system.apt('install', *(f'/root/packages/{package.name}' for package in packages.values()))
+    system.apt('install', *options, *(f'/root/packages/{package.name}' for package in packages.values()))
+
+
+def load_the_core(system):
+    core = list(system.root.glob('usr/lib/*/libretro/gbkeep_libretro.so'))
+    expect('the core', len(core), 1)
+    system.run('python3', '-c', f'import ctypes; assert ctypes.CDLL("/{core[0].relative_to(system.root)}").retro_api_version() == 1')
+
+
+def try_alone(system, packages):
+    """The core needs no program, and the testers' tools no other package of Python."""
+    system.apt('install', '--no-install-recommends', 'python3')
+    system.apt('purge', 'python3-pil')
+    install(system, {'gbkeep-libretro': packages['gbkeep-libretro']}, '--no-install-recommends')
+    load_the_core(system)
+    expect('no program', (system.root / 'usr/bin/gbkeep').exists(), False)
+    system.run('dpkg', '--purge', 'gbkeep-libretro')
+    testers = ('gbkeep', 'python3-gbkeep', 'gbkeep-testers')
+    install(system, {name: packages[name] for name in testers}, '--no-install-recommends')
+    expect('no PIL', system.run('python3', '-c', 'import importlib.util; print(importlib.util.find_spec("PIL"))'), 'None\n')
+    expect('a test', '1 as wanted, 0 failed' in system.run('sh', '-c', 'cd /root && gbkeep-run-tests passes.gb'), True)
+    system.run('dpkg', '--purge', *testers)
+
+
+def complete(system):
+    """Each shell finds the completions, also those of a tool."""
+    loads = 'source /usr/share/bash-completion/bash_completion; _completion_loader gbkeep-window; complete -p gbkeep-window'
+    for words, wanted in ((['bash', '-c', loads], 'complete -F _gbkeep gbkeep-window\n'),
+                          (['fish', '-c', "complete -C 'gbkeep-run-tests --sl'"], '--slowest\tsays which five ROMs took the longest, as on a terminal\n'),
+                          (['zsh', '-fc', 'autoload -Uz compinit; compinit -u -D; echo $_comps[gbkeep-debug]'], '_gbkeep\n')):
+        expect(f'completions of {words[0]}', system.run(*words), wanted)
+
+
+def build_a_program(system):
+    """A program in C is built by what pkg-config says, and starts."""
+    system.run('sh', '-c', 'cc -o /root/play /usr/share/doc/gbkeep/examples/library/play.c $(pkg-config --cflags --libs gbkeep)')
+    expect('settings', system.run('pkg-config', '--libs', '--cflags', 'gbkeep').split(), ['-lgbkeep'])
+    system.run('sh', '-c', 'rm -f /root/played && /root/play /root/demo.gb /root/played /root/script')
 
 
 def try_it(system, count):
@@ -144,9 +182,7 @@ def try_it(system, count):
     expect('a friendly script', 'frames' in system.run('sh', '-c', "cd /root && printf 'A 3\\n' > few && gbkeep-script own few"), True)
     expect('the library', system.run('python3', '-c', LOAD), 'done\n')
     expect('the package of Python', system.run('python3', '-c', PYTHON), "4\nb'PNG'\n")
-    core = list(system.root.glob('usr/lib/*/libretro/gbkeep_libretro.so'))
-    expect('the core', len(core), 1)
-    system.run('python3', '-c', f'import ctypes; assert ctypes.CDLL("/{core[0].relative_to(system.root)}").retro_api_version() == 1')
+    load_the_core(system)
 
 
 def live(packages, system, room):
@@ -160,6 +196,8 @@ def live(packages, system, room):
     (system.root / 'root/game.gbkeep').unlink(missing_ok=True)
     system.apt('update')
     before = system.ours()
+    try_alone(system, packages)
+    expect('what the packages that were alone have left', system.ours() - before, set())
     older = as_older(packages, room)
     install(system, older)
     try_it(system, 0)
@@ -170,6 +208,9 @@ def live(packages, system, room):
     expect('what only the older packages had', [path for path in system.ours() | {'usr/share/doc/gbkeep/OLDER'} if path.endswith('/OLDER') and (system.root / path).exists()], [])
     expect('what was installed is as it was packed', system.run('dpkg', '--verify', *PACKAGES), '')
     try_it(system, 95)
+    system.apt('install', '--no-install-recommends', 'bash-completion', 'fish', 'zsh', 'gcc', 'libc6-dev', 'pkgconf')
+    complete(system)
+    build_a_program(system)
     system.run('dpkg', '--purge', *PACKAGES)
     expect('what is left after a removal', system.ours() - before, set())
     expect('the game is left', (system.root / 'root/game.gbkeep').stat().st_size > 0, True)

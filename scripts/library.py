@@ -1,8 +1,9 @@
-"""Leaves bin/libgbkeep.a, bin/libgbkeep.so, bin/gbkeep.h and bin/gbkeep.pc: the machine and the session as a library for C.
+"""Leaves bin/libgbkeep.a, bin/libgbkeep.so (and bin/libgbkeep.so.0, which leads to it), bin/gbkeep.h and bin/gbkeep.pc: the machine and the session as a
+library for C, and what a program is built with over them where they lie.
 
-usage: library.py [PREFIX]     PREFIX: where gbkeep.pc says that the library is (/usr/local)
-       library.py arm64        the same for aarch64, in bin/arm64
-       library.py gate         right after `rt ci`: over the libraries that it left, so that crates/c_interface alone is proved
+usage: library.py           for this computer
+       library.py arm64     the same for aarch64, in bin/arm64
+       library.py gate      right after `rt ci`: over the libraries that it left, so that crates/c_interface alone is proved
 
 RT names the prover, CC the C compiler. The proved part is built by `rt lib` in crates/c_interface, which proves what has changed first."""
 import os
@@ -11,10 +12,24 @@ import sys
 import tempfile
 from pathlib import Path
 
+from gbkeep import __version__
 from scripts.arm64 import target
 
 TOP = Path(__file__).resolve().parent.parent
 LIBRARY, BIN = TOP / 'library', TOP / 'bin'
+SHARED, SONAME = 'libgbkeep.so', 'libgbkeep.so.0'
+LEFT = ('libgbkeep.a', SHARED, 'gbkeep.h')
+# where it lies; installed.py writes where it is installed
+SETTINGS = f'''prefix=${{pcfiledir}}
+libdir=${{prefix}}
+includedir=${{prefix}}
+
+Name: gbkeep
+Description: a Game Boy emulator whose machine and saves are proved
+Version: {__version__}
+Libs: -L${{libdir}} -lgbkeep
+Cflags: -I${{includedir}}
+'''
 # files are named as below the top, so that a build in another folder has the same bytes
 FLAGS = ['-std=c11', '-O2', '-Wall', '-Wextra', '-fPIC', f'-ffile-prefix-map={TOP}=.']
 
@@ -57,10 +72,18 @@ def build(out, proved, compiler, debug=False, archiver='ar'):
     names = out / 'gbkeep.map'
     names.write_text('{ global: gbkeep_machine_*; gbkeep_session_*; gbkeep_fault_text; local: *; };\n', encoding='utf-8')
     if not debug:
-        run([compiler, '-shared', '-s', '-Wl,-soname,libgbkeep.so.0', f'-Wl,--version-script={names}', '-Wl,--gc-sections', '-Wl,-z,relro,-z,now',
-             '-o', out / 'libgbkeep.so', '-Wl,--whole-archive', archive, '-Wl,--no-whole-archive'])
+        run([compiler, '-shared', '-s', f'-Wl,-soname,{SONAME}', f'-Wl,--version-script={names}', '-Wl,--gc-sections', '-Wl,-z,relro,-z,now',
+             '-o', out / SHARED, '-Wl,--whole-archive', archive, '-Wl,--no-whole-archive'])
     for made_on_the_way in (*objects, names, out / 'gbkeep_faults.h'):
         made_on_the_way.unlink()
+
+
+def leave(out, place):
+    """Moves what was built to where it is looked for, with the name that a program is started with, and the settings of pkg-config."""
+    (out / SONAME).symlink_to(SHARED)
+    (out / 'gbkeep.pc').write_text(SETTINGS, encoding='utf-8')
+    for name in (*LEFT, SONAME, 'gbkeep.pc'):
+        os.replace(out / name, place / name)
 
 
 def below(name):
@@ -84,8 +107,9 @@ def is_left_by_ci(name):
 
 def main():
     words = sys.argv[1:]
+    if words not in ([], ['arm64'], ['gate']):
+        sys.exit(__doc__)
     is_arm64, is_gate = words == ['arm64'], words == ['gate']
-    prefix = '/usr/local' if is_arm64 or is_gate or not words else words[0]
     compiler = target.compiler() if is_arm64 else os.environ.get('CC', 'cc')
     archiver = target.tool('ar') if is_arm64 else 'ar'
     crate, place = TOP / 'crates/c_interface', BIN / 'arm64' if is_arm64 else BIN
@@ -100,12 +124,8 @@ def main():
             print(target.prove(TOP, 'c_interface', proved, '--crate-type', 'staticlib', target=target.TARGET if is_arm64 else target.HOST), flush=True)
         build(Path(folder), proved, compiler, archiver=archiver)
         if is_arm64:
-            target.needed(Path(folder) / 'libgbkeep.so')
-        for name in ('libgbkeep.a', 'libgbkeep.so', 'gbkeep.h'):
-            os.replace(Path(folder) / name, place / name)
-    (place / 'gbkeep.pc').write_text(f'prefix={prefix}\nlibdir=${{prefix}}/lib\nincludedir=${{prefix}}/include\n\nName: gbkeep\n'
-                                     'Description: a Game Boy emulator whose machine and saves are proved\nVersion: 0\n'
-                                     'Libs: -L${libdir} -lgbkeep\nCflags: -I${includedir}\n', encoding='utf-8')
+            target.needed(Path(folder) / SHARED)
+        leave(Path(folder), place)
 
 
 if __name__ == '__main__':

@@ -46,7 +46,8 @@ class Shades(Picture):
 
 def find_library() -> str:
     """What the variable GBKEEP_LIBRARY names; else bin/libgbkeep.so of the clone, or the one that is installed with this; else the system's."""
-    beside = [prefix() / name for name in ('bin/libgbkeep.so', 'lib/libgbkeep.so.0')]
+    # what is installed in another folder than lib has a link beside the package
+    beside = [prefix() / name for name in ('bin/libgbkeep.so', 'share/gbkeep/libgbkeep.so.0', 'lib/libgbkeep.so.0')]
     return os.environ.get('GBKEEP_LIBRARY') or next((str(one) for one in beside if one.exists()), 'libgbkeep.so.0')
 
 

@@ -404,7 +404,9 @@ def run_window(window: Window, asked: argparse.Namespace, save: str) -> None:
 def main() -> int:
     asked = words_of(sys.argv[1:])
     if pygame is None:
-        say(f"{name_of_tool()}: pygame is missing: install Debian's package python3-pygame, and start it by that Python (/usr/bin/python3)")
+        # what is installed has looked for another Python
+        by = ', and start it by that Python (/usr/bin/python3)' if sys.argv[0].endswith('.py') else ''
+        say(f"{name_of_tool()}: pygame is missing: install Debian's package python3-pygame{by}")
         return 1
     window = None
     try:
