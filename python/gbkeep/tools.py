@@ -125,10 +125,10 @@ def told(main: Callable[[list[str]], Optional[int]], usage: Optional[str], words
     from .game import Refused
 
     before = words[:words.index('--')] if '--' in words else words
-    if usage is not None and ('--help' in before or '-h' in before):
-        print(usage)
-        return 0
     try:
+        if usage is not None and ('--help' in before or '-h' in before):
+            print(usage)
+            return 0
         return main(words) or 0
     except WrongWords:
         say(usage)

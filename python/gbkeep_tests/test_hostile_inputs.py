@@ -537,6 +537,9 @@ def attack_words(room):
         for words in (('--help',), ('-h',)):
             done = room.run(tool, *words)
             room.expect(f'{tool} {words}', (done.returncode, b'usage' in done.stdout, done.stderr), (0, True, b''))
+        line = ' '.join(shlex.quote(str(word)) for word in bare_words(tool))
+        done = subprocess.run(['sh', '-c', f'{line} --help > /dev/full'], cwd=room.folder, capture_output=True, timeout=SECONDS, env=dict(os.environ, PYTHONUNBUFFERED='1'))
+        room.expect(f'{tool} --help: {done.stderr[-200:]!r}', (done.returncode, b'Traceback' in done.stderr, len(done.stderr.splitlines())), (1, False, 1))
         for words in ((), ('--none',), ('a',) * 9):
             if tool == 'run_tests' and words == ('a',) * 9:
                 continue
