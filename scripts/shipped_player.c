@@ -3,7 +3,7 @@
  * shipped_player FILE CART FRAMES [picture | state]     FILE: libgbkeep.so or gbkeep_libretro.so; picture: each frame with its picture; state:
  *                                                       behind each frame a state is taken and given back
  *
- * The core keeps its game beside CART. The types are those of libretro.h and gbkeep.h, as far as they are needed here. */
+ * The core keeps its game beside CART. Another core of a Game Boy is played, too, where it asks for no more than a path and the ROM. The types are those of libretro.h and gbkeep.h, as far as they are needed here. */
 #include <dlfcn.h>
 #include <stdbool.h>
 #include <stdint.h>
@@ -11,7 +11,7 @@
 #include <stdlib.h>
 #include <string.h>
 
-enum { SHADES = 160 * 144, SET_PIXEL_FORMAT = 10, AUDIO_VIDEO_ENABLE = 47 | 0x10000, VIDEO = 1, AUDIO = 2 };
+enum { SHADES = 160 * 144, GET_CAN_DUPE = 3, SET_PIXEL_FORMAT = 10, AUDIO_VIDEO_ENABLE = 47 | 0x10000, VIDEO = 1, AUDIO = 2 };
 
 struct game_info {
     const char *path;
@@ -22,7 +22,7 @@ struct game_info {
 
 static bool with_pictures, with_states;
 static unsigned long shown;
-static uint8_t state[1 << 18];
+static uint8_t state[1 << 18], rom[8 << 20];
 
 static void *found(void *from, const char *name) {
     void *at = dlsym(from, name);
@@ -39,18 +39,24 @@ static void *found(void *from, const char *name) {
 static bool environment(unsigned what, void *data) {
     if (what == AUDIO_VIDEO_ENABLE)
         *(int *)data = (with_pictures ? VIDEO : 0) | AUDIO;
-    return what == AUDIO_VIDEO_ENABLE || what == SET_PIXEL_FORMAT;
+    if (what == GET_CAN_DUPE)
+        *(bool *)data = true;
+    return what == AUDIO_VIDEO_ENABLE || what == GET_CAN_DUPE || what == SET_PIXEL_FORMAT;
 }
 
 static void video(const void *data, unsigned width, unsigned height, size_t pitch) { shown += data && width && height && pitch; }
 static void poll_input(void) {}
+static void sample(int16_t left, int16_t right) { (void)left, (void)right; }
+static size_t samples(const int16_t *data, size_t frames) { return (void)data, frames; }
 static int16_t pressed(unsigned port, unsigned device, unsigned index, unsigned id) { return (void)port, (void)device, (void)index, (void)id, 0; }
 
-static int by_core(void *from, const char *cart, unsigned long frames) {
+static int by_core(void *from, const char *cart, size_t size, unsigned long frames) {
     CALL(void (*)(bool (*)(unsigned, void *)), retro_set_environment);
     CALL(void (*)(void (*)(const void *, unsigned, unsigned, size_t)), retro_set_video_refresh);
     CALL(void (*)(void (*)(void)), retro_set_input_poll);
     CALL(void (*)(int16_t (*)(unsigned, unsigned, unsigned, unsigned)), retro_set_input_state);
+    CALL(void (*)(void (*)(int16_t, int16_t)), retro_set_audio_sample);
+    CALL(void (*)(size_t (*)(const int16_t *, size_t)), retro_set_audio_sample_batch);
     CALL(void (*)(void), retro_init);
     CALL(bool (*)(const struct game_info *), retro_load_game);
     CALL(void (*)(void), retro_run);
@@ -58,9 +64,11 @@ static int by_core(void *from, const char *cart, unsigned long frames) {
     CALL(size_t (*)(void), retro_serialize_size);
     CALL(bool (*)(void *, size_t), retro_serialize);
     CALL(bool (*)(const void *, size_t), retro_unserialize);
-    struct game_info info = {cart, NULL, 0, NULL};
+    struct game_info info = {cart, rom, size, NULL};
     retro_set_environment(environment);
     retro_set_video_refresh(video);
+    retro_set_audio_sample(sample);
+    retro_set_audio_sample_batch(samples);
     retro_set_input_poll(poll_input);
     retro_set_input_state(pressed);
     retro_init();
@@ -76,7 +84,7 @@ static int by_core(void *from, const char *cart, unsigned long frames) {
     return 0;
 }
 
-static int by_library(void *from, const char *cart, unsigned long frames) {
+static int by_library(void *from, size_t size, unsigned long frames) {
     CALL(uint32_t (*)(const uint8_t *, size_t, void **), gbkeep_machine_new);
     CALL(void (*)(void *, uint8_t, uint32_t), gbkeep_machine_frames);
     CALL(uint32_t (*)(void *, uint8_t *, size_t), gbkeep_machine_picture);
@@ -84,11 +92,9 @@ static int by_library(void *from, const char *cart, unsigned long frames) {
     CALL(uint32_t (*)(void *, uint8_t *, size_t), gbkeep_machine_state);
     CALL(uint32_t (*)(void *, const uint8_t *, size_t), gbkeep_machine_restore);
     CALL(void (*)(void *), gbkeep_machine_free);
-    static uint8_t rom[8 << 20], shades[SHADES];
+    static uint8_t shades[SHADES];
     void *machine = NULL;
-    FILE *file = fopen(cart, "rb");
-    size_t size = file ? fread(rom, 1, sizeof rom, file) : 0;
-    if (!file || gbkeep_machine_new(rom, size, &machine) != 0)
+    if (gbkeep_machine_new(rom, size, &machine) != 0)
         return 1;
     size_t length = gbkeep_machine_state_length(machine);
     for (unsigned long frame = 0; frame < frames; frame++) {
@@ -114,8 +120,10 @@ int main(int count, char **words) {
         fprintf(stderr, "shipped_player: %s\n", dlerror());
         return 1;
     }
+    FILE *file = fopen(words[2], "rb");
+    size_t size = file ? fread(rom, 1, sizeof rom, file) : 0;
     unsigned long frames = strtoul(words[3], NULL, 10);
-    int status = (dlsym(from, "retro_run") ? by_core : by_library)(from, words[2], frames);
+    int status = dlsym(from, "retro_run") ? by_core(from, words[2], size, frames) : by_library(from, size, frames);
     if (status == 0 && with_pictures && shown != frames)
         status = 1;
     if (status != 0)
