@@ -12,72 +12,113 @@ $(error ARCH is arm64, or left out for this computer)
 endif
 # the package, and what tests and scripts take from each other
 export PYTHONPATH := $(CURDIR)/python:$(CURDIR)$(if $(PYTHONPATH),:$(PYTHONPATH))
-# the Python that has PIL: Debian's, where another one comes first
+# the Python that has PIL, by which tests read pictures a second time: Debian's, where another one comes first
 PIL_PYTHON ?= $(shell for one in python3 /usr/bin/python3; do $$one -c 'import PIL' > /dev/null 2>&1 && echo $$one && exit; done; echo python3)
 SOURCES := crates.txt $(shell find crates -name out -prune -o -type f \( -name '*.rt' -o -name '*.antt' \) -print)
 
+# make looks by scripts/doctor.py for what its targets need before it proves or builds anything; a question (make -q) needs nothing
+LOOK := $(if $(findstring q,$(firstword -$(MAKEFLAGS))),,looked)
+
 help:
-	@echo 'To have it:'
-	@echo '  make build           proves the program and leaves it at bin/gbkeep, with a line a crate (from nothing: about an hour of processor time,'
-	@echo '                       as many crates at once as there are processors and 2.5 GB of memory for each, or JOBS=N)'
-	@echo '  make demo            plays a minute of examples/demo and leaves bin/demo.gbkeep, bin/demo.pgm and bin/demo.png (a second; needs'
-	@echo '                       python3-pil)'
-	@echo '  make play            plays a cartridge in a window (CART=examples/demo/demo.gb SAVE=NAME.gbkeep; without SAVE, the game is kept in'
-	@echo '                       ~/.local/share/gbkeep; needs python3-pygame)'
-	@echo '  make install         puts program, window, tools, man pages and completions below PREFIX (PREFIX=$(PREFIX)), and what else'
-	@echo '                       is built of the library and the core (LIBDIR=$(LIBDIR), as seen from PREFIX; DESTDIR=: a folder to stage it in)'
-	@echo '  make uninstall       removes what make install puts there (with the same PREFIX, LIBDIR and DESTDIR)'
-	@echo '  make libretro        proves the library, and leaves bin/gbkeep_libretro.so, a core for RetroArch and its kind (needs a C compiler and'
-	@echo '                       retroarch-dev)'
-	@echo '  make library         proves the library for C, and leaves bin/libgbkeep.a, bin/libgbkeep.so, bin/gbkeep.h and bin/gbkeep.pc (needs a C'
-	@echo '                       compiler)'
-	@echo '  make web             proves the library, and leaves dist/web, a page that plays in a browser from any web server (docs/BROWSER.md)'
-	@echo '  make dist            leaves a tarball and Debian packages in dist, and their sums (needs dpkg-deb and a C compiler)'
-	@echo '                       (build, library, libretro and dist take ARCH=arm64: all is left in bin/arm64 and dist/arm64; needs'
-	@echo '                       gcc-aarch64-linux-gnu)'
-	@echo '  make run             tries the program on a small ROM before any proof (a minute, each time; about 50 frames a second;'
-	@echo '                       ARGS="info data/rom.gb": on other words, over files of $(PROGRAM))'
+	@echo 'To have it and to play:'
+	@echo '  make build      proves the program and leaves it at bin/gbkeep: 47 minutes'
+	@echo '                  from nothing with two processors, 48 with four, 87 with one'
+	@echo '                  (one crate a processor and 2.5 GB of memory, or JOBS=N)'
+	@echo '  make demo       plays a minute of a small game: bin/demo.gbkeep, bin/demo.png'
+	@echo '  make play       plays a cartridge in a window (CART=examples/demo/demo.gb'
+	@echo '                  SAVE=NAME.gbkeep; without SAVE, in ~/.local/share/gbkeep)'
+	@echo '  make web        leaves dist/web, a page that plays in any browser'
+	@echo '                  (docs/BROWSER.md)'
+	@echo '  make install    puts program, window, tools, man pages and completions, and'
+	@echo '                  what is built of library and core, below PREFIX (~/.local);'
+	@echo '                  LIBDIR=lib64: another folder for libraries'
+	@echo '  make uninstall  removes what make install puts there'
+	@echo '  make run        tries the program on a small ROM before any proof: compiles it'
+	@echo '                  first, each time (ARGS="info data/rom.gb": on other words)'
+	@echo '  make libretro   leaves bin/gbkeep_libretro.so, a core for RetroArch'
+	@echo '  make library    leaves bin/libgbkeep.a, bin/libgbkeep.so, bin/gbkeep.h and'
+	@echo '                  bin/gbkeep.pc, the library for C'
+	@echo '  make dist       leaves a tarball and Debian packages in dist, and their sums'
+	@echo '  make doctor     tells what of all that they need is there, and what each'
+	@echo '                  missing thing costs'
+	@echo '  make clean      removes what make has made in bin and dist, and no game'
+	@echo '  make clean-cache'
+	@echo '                  removes what proofs keep for the next one'
+	@echo '  ARCH=arm64      build, install, library, libretro and dist for aarch64: in'
+	@echo '                  bin/arm64 and dist/arm64'
 	@echo
-	@echo 'To change it (times are of two idle processors):'
-	@echo '  make check           proves what changed, seconds a crate (CRATE=name for one crate)'
-	@echo '  make edits           tries every wrong body, 10 to 40 s each (CRATE=name for one crate)'
-	@echo '  make lint            looks at all Python by pyflakes3 (two seconds)'
-	@echo '  make test            the gate: proves everything from nothing, runs the tests and programs (docs/CONTRIBUTING.md says how long)'
-	@echo '  make bench           what frames, pictures, steps and saves cost in what ships (needs valgrind, strace, and what make libretro needs)'
-	@echo '  make compare         compares the program with a second one, in Python, on random ROMs (SECONDS=20 a kind)'
-	@echo '  make hostile         gives the program damaged files and wrong scripts, kills it, and looks at what is left (SECONDS=20 a kind)'
-	@echo '  make fuzz            gives it random ROMs, scripts and save files alone, from another seed each time (SECONDS=20 in all), and then its'
-	@echo '                       tools hostile files, for 60 seconds'
-	@echo '  make strace          compares each write and sync of the save file with a second writer (needs strace)'
-	@echo '  make memory          refuses each allocation in turn (20 seconds once both programs are built; needs a C compiler)'
-	@echo '  make test-window     plays the demo by real keys in a window of its own and kills it (two minutes; needs xvfb, xdotool,'
-	@echo '                       python3-pygame, python3-pil)'
-	@echo '  make test-library    plays by the library from C and from Python, under the sanitizers, and cuts it at each call (a minute)'
-	@echo '  make test-arm64      runs the program for aarch64 by qemu: program tests, damaged files, comparisons, recordings, battery files, and games'
-	@echo '                       that go from one processor to the other (SECONDS=20 a kind; needs qemu-user-static, and make build ARCH=arm64)'
-	@echo '  make test-packages   looks at the packages of dist by lintian, and installs, upgrades and removes them in a system of their own (ten'
-	@echo '                       minutes; needs lintian, debootstrap and root)'
+	@echo 'To change it (times are of two idle processors; docs/CONTRIBUTING.md):'
+	@echo '  make check      proves what changed, seconds a crate (CRATE=NAME for one)'
+	@echo '  make edits      tries every wrong body, 10 to 40 s each (CRATE=NAME for one)'
+	@echo '  make lint       looks at all Python by pyflakes3 (two seconds)'
+	@echo '  make test       the gate: proves everything from nothing, runs the tests and'
+	@echo '                  the programs, and ends with what was not tried, and why'
+	@echo '  make bench      counts what frames, pictures, steps and saves cost in what'
+	@echo '                  ships'
+	@echo '  make compare    compares the program with a second one, in Python, on random'
+	@echo '                  ROMs (SECONDS=20 a kind)'
+	@echo '  make hostile    gives the program damaged files and wrong scripts, kills it,'
+	@echo '                  and looks at what is left (SECONDS=20 a kind)'
+	@echo '  make fuzz       gives it random ROMs, scripts and save files, by another seed'
+	@echo '                  each time (SECONDS=20 in all), and its tools hostile files'
+	@echo '  make strace     compares each write and sync of the save file with a second'
+	@echo '                  writer'
+	@echo '  make memory     refuses each allocation in turn (20 s once both are built)'
+	@echo '  make test-window'
+	@echo '                  plays the demo by real keys in a window of its own, and kills'
+	@echo '                  it (two minutes)'
+	@echo '  make test-library'
+	@echo '                  plays by the library from C and from Python, under the'
+	@echo '                  sanitizers, and cuts it at each call (a minute)'
+	@echo '  make test-libretro'
+	@echo '                  plays by the core: states, slow and failing disks, kills at'
+	@echo '                  each kind of call, garbage (two minutes)'
+	@echo '  make test-retroarch'
+	@echo '                  plays by the core in RetroArch: rewind, run-ahead, kills (two'
+	@echo '                  minutes)'
+	@echo '  make test-slow-disk'
+	@echo '                  plays in the window and by the core while each sync takes'
+	@echo '                  300 ms (a minute)'
+	@echo '  make test-web   plays by the page in Chromium, kills it, and gives it wrong'
+	@echo '                  files, a full disk and no network (eight minutes)'
+	@echo '  make test-arm64 runs the program for aarch64 by qemu: tests, damaged files,'
+	@echo '                  comparisons, games from one processor to the other'
+	@echo '                  (SECONDS=20 a kind; after make build ARCH=arm64)'
+	@echo '  make test-packages'
+	@echo '                  looks at the packages of dist by lintian, and installs,'
+	@echo '                  upgrades and removes them in a system of their own (ten'
+	@echo '                  minutes)'
 	@echo '  make test-reproducible'
-	@echo '                       builds it all again in a clone of another name, and compares each byte with dist'
-	@echo '  make test-slow-disk  plays in the window and by the core while each sync takes 300 ms (a minute; needs what make test-window needs)'
-	@echo '  make test-cards      cuts the power of a card with exFAT or vfat in a virtual machine, and looks at what it may hold (four minutes; KERNEL: a'
-	@echo '                       folder that a linux-image of Debian was unpacked into; scripts/second_storage/cards.py says what it needs)'
-	@echo '  make test-web        plays by the page in Chromium, kills it, and gives it wrong files, a full disk and no network (eight minutes; needs chromium,'
-	@echo '                       chromium-driver, python3-selenium)'
-	@echo '  make test-libretro   plays the demo by the core, with states, slow and failing disks, kills at each kind of call, and garbage (two minutes; needs'
-	@echo '                       what make libretro needs, and a compiler with the sanitizers)'
-	@echo '  make test-retroarch  plays by the core in RetroArch: states, rewind, run-ahead, reset, killed and gone on (two minutes; needs retroarch, xvfb)'
+	@echo '                  builds it all again in a clone of another name, and compares'
+	@echo '                  each byte with dist'
+	@echo '  make test-cards cuts the power of a card with exFAT or vfat in a virtual'
+	@echo '                  machine (four minutes; KERNEL=FOLDER of a linux-image)'
+	@echo
+	@python3 -B scripts/clean.py sizes 2> /dev/null || true
+
+looked:
+	@command -v python3 > /dev/null || { echo 'python3 is missing: install python3' >&2; exit 1; }
+	@python3 -B scripts/doctor.py $(MAKECMDGOALS)
+
+doctor:
+	@python3 -B scripts/doctor.py
+
+clean:
+	@python3 -B scripts/clean.py
+
+clean-cache:
+	@python3 -B scripts/clean.py cache
 
 ARGS ?= step data/rom.gb 2
 
 run:
-	@cd $(PROGRAM) && $(RT) try -- $(ARGS)
+	@cd $(PROGRAM) && python3 -B "$(CURDIR)/scripts/alive.py" 'compiling the program, unproved, and then running gbkeep $(subst ','\'',$(ARGS)): one to three minutes' $(RT) try -- $(ARGS)
 
-bin/gbkeep: $(SOURCES)
+bin/gbkeep: $(SOURCES) | $(LOOK)
 	@RT=$(RT) JOBS=$(JOBS) python3 -B scripts/build.py
 
 BY_ARM64 := $(addprefix scripts/arm64/,target.py os.c start.S)
-bin/arm64/gbkeep: $(SOURCES) $(BY_ARM64) library/heap.c
+bin/arm64/gbkeep: $(SOURCES) $(BY_ARM64) library/heap.c | $(LOOK)
 	@RT=$(RT) JOBS=$(JOBS) python3 -B scripts/build.py arm64
 
 build: $(OUT)/gbkeep
@@ -127,7 +168,8 @@ demo: bin/gbkeep
 	bin/gbkeep new examples/demo/demo.gb bin/demo.gbkeep
 	bin/gbkeep play examples/demo/demo.gb bin/demo.gbkeep examples/demo/tour.txt
 	bin/gbkeep frame examples/demo/demo.gb bin/demo.gbkeep bin/demo.pgm
-	$(PIL_PYTHON) -B -m gbkeep.png bin/demo.pgm bin/demo.png
+	python3 -B -m gbkeep.png bin/demo.pgm bin/demo.png
+	@echo 'bin/demo.png: the picture at the end of the tour'
 
 # the Python that has pygame: Debian's, where another one comes first
 PYTHON ?= $(shell python3 -c 'import pygame' > /dev/null 2>&1 && echo python3 || echo /usr/bin/python3)
@@ -141,14 +183,14 @@ play: bin/gbkeep
 CC ?= cc
 LIBRETRO ?= /usr/include/libretro-common
 
-$(OUT)/gbkeep_libretro.so: $(OUT)/libgbkeep.so scripts/libretro.py players/libretro/gbkeep_libretro.c players/libretro/faults_h.py python/gbkeep/faults.py
+$(OUT)/gbkeep_libretro.so: $(OUT)/libgbkeep.so scripts/libretro.py players/libretro/gbkeep_libretro.c players/libretro/faults_h.py python/gbkeep/faults.py | $(LOOK)
 	CC="$(CC)" LIBRETRO="$(LIBRETRO)" python3 -B scripts/libretro.py $(ARCH)
 
 libretro: $(OUT)/gbkeep_libretro.so
 
 library: $(OUT)/libgbkeep.so
 
-$(OUT)/libgbkeep.so: $(SOURCES) $(wildcard library/*) scripts/library.py $(if $(ARCH),scripts/arm64/target.py) python/gbkeep/faults.py
+$(OUT)/libgbkeep.so: $(SOURCES) $(wildcard library/*) scripts/library.py $(if $(ARCH),scripts/arm64/target.py) python/gbkeep/faults.py | $(LOOK)
 	RT=$(RT) python3 -B scripts/library.py $(ARCH)
 
 test-library: bin/gbkeep bin/libgbkeep.so
@@ -157,7 +199,7 @@ test-library: bin/gbkeep bin/libgbkeep.so
 web: dist/web/gbkeep.wasm
 
 dist/web/gbkeep.wasm: $(SOURCES) $(wildcard library/* web/page/* web/include/* web/*.c web/*.h) web/faults.py scripts/web.py scripts/library.py \
-  python/gbkeep/faults.py examples/demo/demo.gb
+  python/gbkeep/faults.py examples/demo/demo.gb | $(LOOK)
 	RT=$(RT) python3 -B scripts/web.py
 
 # the Python that has selenium: Debian's, where another one comes first
@@ -200,15 +242,23 @@ memory: bin/gbkeep
 	cd crates/refused_memory && $(RT) run > /dev/null
 	python3 -B scripts/second_storage/refused_memory.py bin/gbkeep crates/refused_memory/out/refused_memory
 
-lint:
-	@if command -v pyflakes3 > /dev/null; then pyflakes3 examples library packaging players python scripts web; else echo 'there is no pyflakes3: the Python was not looked at'; fi
+LINT := pyflakes3 examples library packaging players python scripts web
 
+lint:
+	@$(LINT)
+
+# what a step leaves out, and why, is noted there, and told at the end
+test: export NOT_TRIED := $(CURDIR)/bin/not_tried
 test:
+	@python3 -B scripts/not_tried.py begins
 	RT=$(RT) python3 -B packaging/dist.py begins
-	@$(MAKE) --no-print-directory lint
+	if python3 -B scripts/doctor.py --try 'all Python, by pyflakes3' pyflakes3; then $(LINT); fi
+	python3 -B scripts/test_make.py
 	RT=$(RT) sh scripts/opened_has_no_append.sh
 	python3 -B scripts/front_door.py
 	python3 -B packaging/completions.py check
+	python3 -B examples/speed/build.py check
+	python3 -B scripts/speed_chart.py check
 	python3 -B scripts/refusals.py
 	python3 -B scripts/definitions.py public
 	python3 -B scripts/unused_names.py
@@ -225,16 +275,18 @@ test:
 	python3 -B python/gbkeep_tests/test_slots.py $(PROGRAM)/out/gbkeep_program
 	python3 -B python/gbkeep_tests/test_shown_game.py $(PROGRAM)/out/gbkeep_program
 	python3 -B python/gbkeep_tests/test_window_parts.py
-	python3 -B python/gbkeep_tests/test_package.py
+	$(PIL_PYTHON) -B python/gbkeep_tests/test_package.py
 	$(PIL_PYTHON) -B python/gbkeep_tests/test_pictures.py
 	CC="$(CC)" python3 -B packaging/test_installed.py
 	python3 -B packaging/test_completions.py
 	python3 -B web/test_module.py
-	if command -v $(CC) > /dev/null; then RT=$(RT) CC="$(CC)" python3 -B scripts/library.py gate && \
-	CC="$(CC)" python3 -B library/test_library.py $(PROGRAM)/out/gbkeep_program; else echo 'there is no C compiler: the library was not tried'; fi
-	if [ -e $(LIBRETRO)/libretro.h ]; then $(MAKE) bin/gbkeep_libretro.so && \
+	if python3 -B scripts/doctor.py --try 'the library for C' cc ar; then RT=$(RT) CC="$(CC)" python3 -B scripts/library.py gate && \
+	CC="$(CC)" python3 -B library/test_library.py $(PROGRAM)/out/gbkeep_program; fi
+	if python3 -B scripts/doctor.py --try 'the libretro core' cc ar libretro.h; then CC="$(CC)" LIBRETRO="$(LIBRETRO)" python3 -B scripts/libretro.py && \
 	python3 -B players/libretro/test_libretro.py $(PROGRAM)/out/gbkeep_program bin/gbkeep_libretro.so && \
-	CC="$(CC)" LIBRETRO="$(LIBRETRO)" python3 -B players/libretro/test_garbage.py 10; else echo 'there is no libretro.h: the core was not tried'; fi
+	if python3 -B scripts/doctor.py --try 'the libretro core, garbage' sanitizers; then \
+	CC="$(CC)" LIBRETRO="$(LIBRETRO)" python3 -B players/libretro/test_garbage.py 10; fi; fi
+	CC="$(CC)" python3 -B scripts/shipped.py gate $(PROGRAM)/out/gbkeep_program bin bin/gbkeep_libretro.so
 	python3 -B scripts/second_storage/hostile.py $(PROGRAM)/out/gbkeep_program 4 1
 	python3 -B scripts/second_machine/compare.py $(PROGRAM)/out/gbkeep_program tests 1 5
 	python3 -B scripts/second_machine/compare.py $(PROGRAM)/out/gbkeep_program refuse 1 3
@@ -252,5 +304,9 @@ test:
 	$(PIL_PYTHON) -B scripts/tool_fuzz.py $(PROGRAM)/out/gbkeep_program 5 1
 	python3 -B scripts/second_storage/refused_memory.py $(PROGRAM)/out/gbkeep_program crates/refused_memory/out/refused_memory
 	RT=$(RT) python3 -B packaging/dist.py passed $(PROGRAM)/out/gbkeep_program
+	@python3 -B scripts/not_tried.py ends
 
-.PHONY: help build demo play install uninstall libretro dist run check edits lint test bench compare hostile fuzz strace memory test-window test-libretro library test-library test-arm64 test-packages test-reproducible test-slow-disk test-retroarch test-cards web test-web
+TARGETS := build demo play install uninstall libretro dist run check edits lint test bench compare hostile fuzz strace memory test-window test-libretro library test-library test-arm64 test-packages test-reproducible test-slow-disk test-retroarch test-cards web test-web
+FREE := help doctor clean clean-cache
+$(TARGETS): | $(LOOK)
+.PHONY: $(TARGETS) $(FREE) looked

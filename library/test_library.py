@@ -16,6 +16,8 @@ from pathlib import Path
 HERE = Path(__file__).resolve().parent
 TOP = HERE.parent
 from gbkeep import Machine, Picture, Refused, Session, save_files, sectors_needed
+from scripts.doctor import tries
+from scripts.not_tried import note
 
 PROGRAM, LIBRARY = 'bin/gbkeep', TOP / 'bin'
 DEMO = TOP / 'examples/demo/demo.gb'
@@ -23,7 +25,6 @@ ROM = DEMO.read_bytes()
 SCRIPT = b'frames 00 40\nframes 80 4\nsave\nframes 11 30\nsave\nseconds 7\nframe 10\nsave\nframes 01 90\n'
 SECTOR = 512
 CART = save_files.Cartridge(ROM)
-
 
 
 def run(*words, **how):
@@ -66,6 +67,7 @@ class Playing(InFolder):
         base = [compiler, '-std=c11', '-O1', '-g', '-Wall', '-Wextra', f'-I{LIBRARY}', TOP / 'examples/library/play.c', LIBRARY / 'libgbkeep.a', '-o', cls.play]
         checked = run(*base, '-fsanitize=address,undefined', '-fno-sanitize-recover=all')
         if checked.returncode != 0:
+            tries('the library for C, under the sanitizers', 'sanitizers')
             plain = run(*base)
             if plain.returncode != 0:
                 raise AssertionError(plain.stderr.decode())
@@ -144,7 +146,7 @@ class Linked(InFolder):
 
     def test_by_its_settings(self):
         if shutil.which('pkg-config') is None:
-            print('not all was tried: gbkeep.pc: pkg-config is missing')
+            note('a program by gbkeep.pc', 'pkg-config is missing')
             self.skipTest('pkg-config is missing')
         said = run('pkg-config', '--cflags', '--libs', 'gbkeep', env=dict(os.environ, PKG_CONFIG_PATH=str(LIBRARY)))
         self.assertEqual((said.returncode, said.stderr), (0, b''))

@@ -19,6 +19,7 @@ import time
 from pathlib import Path
 
 import installed
+from scripts.doctor import needed, tries
 
 RT = os.environ.get('RT', 'rt')
 GATE, BEGUN = Path('bin/gate_passed'), Path('bin/gate_begun')
@@ -44,6 +45,7 @@ def sum_of(path):
 
 
 def begins():
+    tries('the commit that passes, which git names', 'git')
     PROGRAM.parent.mkdir(exist_ok=True)
     GATE.unlink(missing_ok=True)
     BEGUN.write_text(commit())
@@ -240,8 +242,9 @@ class Release:
 
 
 def main(is_arm64):
-    if not shutil.which('dpkg-deb'):
-        sys.exit('dist.py needs dpkg-deb')
+    needed('rt', 'git', 'dpkg-deb', *(() if is_arm64 else ('strip',)))
+    if commit() == 'no commit':
+        sys.exit('dist.py: what is made here names its commit: this is no git clone that has one')
     built, folder = (Path('bin/arm64'), DIST / 'arm64') if is_arm64 else (Path('bin'), DIST)
     release = Release(built, 'gbkeep-static' if is_arm64 else 'gbkeep', 'arm64' if is_arm64 else said('dpkg', '--print-architecture'), folder,
                       'aarch64-linux-gnu-strip' if is_arm64 else 'strip')

@@ -1,15 +1,18 @@
 """Proves and builds the program, its crates side by side, and leaves it at bin/gbkeep. A line for each crate that is proved: its place, its name, the
-minutes so far and, once a tenth is done, about how many are left.
+minutes so far and about how many are left; and each minute a line of what is being proved. The minutes left are those of the plan from there on, at the pace
+at which this host has proved what is done.
 
 usage: build.py          at the top of the repository
        build.py arm64    for aarch64: leaves bin/arm64/gbkeep and bin/arm64/gbkeep-static, which runs without a C library
 
 RT is the toolchain's command. JOBS is how many crates are proved at once: as many as there are processors, and 2.5 GB of free memory for each, if it is
 not given. Of those that need no other any more, the one with the longest way to the program is proved first. Several at once are proved in copies of the
-program's crates alone, one copy for each, in ~/.cache/gbkeep (or XDG_CACHE_HOME), whose work stays there for the next build, some 2 GB; one at a time
-where they are."""
+program's crates alone, one copy for each, in ~/.cache/gbkeep (or XDG_CACHE_HOME), whose work stays there for the next build: how much that takes is told at
+the end, and `make clean-cache` removes it. One at a time they are proved where they are."""
+import contextlib
 import filecmp
-import hashlib
+import functools
+import math
 import os
 import shutil
 import signal
@@ -19,15 +22,24 @@ import tempfile
 import time
 from pathlib import Path
 
+from scripts import clean
+from scripts.alive import alive
 from scripts.arm64 import target
+from scripts.doctor import needed
 
 RT, PROGRAM = os.environ.get('RT', 'rt'), 'gbkeep_program'
 BUILT = Path('bin/gbkeep')
 BYTES_A_JOB = 2_500_000_000
-# about how many seconds the proof of a crate takes, of those that take much longer than their text says; and the bytes that others do in one
-SECONDS = {'sm83_processor': 500, 'debugging': 500, 'gbkeep': 450, 'session': 250, 'command_line': 134, 'streaming': 210, 'replaying': 180,
-           'recorded_play': 170, 'opcode_table': 160, 'test_run': 150}
+# about how many seconds the proof of a crate took from nothing, by one process; and the bytes that others do in one
+SECONDS = {'gbkeep': 530, 'sm83_processor': 510, 'debugging': 430, 'machine': 290, 'session': 260, 'commands': 260, 'embedding': 190, 'streaming': 185,
+           'command_line': 175, 'memory_map': 170, 'opcode_table': 160, 'test_run': 160, 'recorded_play': 150, 'snapshot': 150, 'c_interface': 150,
+           'picture_unit': 130, 'gbkeep_program': 130, 'replaying': 120, 'playing': 110, 'debugger': 105, 'battery_files': 90,
+           'machine_lines': 80, 'script': 75}
 BYTES_A_SECOND = 1500
+# a crate whose libraries are as they were is looked at for so long; one that is proved over what an earlier proof of it has kept takes such a share
+SECONDS_LOOKED, SHARE_OVER_KEPT = 1, 0.4
+# as if so many seconds had been proved at the pace of the table, before anything is
+SECONDS_KNOWN = 120
 # what a proof does not read
 LEFT_OUT = ('out', 'must-fail', 'wrong-bodies')
 
@@ -36,13 +48,14 @@ class Failed(Exception):
     """A command of the toolchain has ended with another status than 0."""
 
 
-def crates():
-    """The program's crates, each behind those that it stands on, the line of each in crates.txt, and which of them it stands on."""
+def crates(top=PROGRAM):
+    """The program's crates, or those of another one, each behind those that it stands on, the line of each in crates.txt, and which of them it stands on."""
     needs, lines = {}, {}
     with open('crates.txt') as file:
         for line in file:
             name, colon, others = line.partition(':')
             if colon and not line.startswith('#'):
+                name = name.split()[0]
                 needs[name], lines[name] = others.split(), line
     order = []
 
@@ -52,7 +65,7 @@ def crates():
                 add(other)
         order.append(name)
 
-    add(PROGRAM)
+    add(top)
     return order, lines, {name: [other for other in needs[name] if other in needs] for name in order}
 
 
@@ -65,13 +78,6 @@ def jobs():
         return int(given)
     free = next((int(line.split()[1]) * 1024 for line in open('/proc/meminfo') if line.startswith('MemAvailable:')), BYTES_A_JOB)
     return max(1, min(len(os.sched_getaffinity(0)), free // BYTES_A_JOB))
-
-
-def room():
-    """The folder of the copy: one for each clone."""
-    cache = os.environ.get('XDG_CACHE_HOME', '')
-    folder = Path(cache if cache.startswith('/') else Path.home() / '.cache') / 'gbkeep'
-    return folder / f'build-{hashlib.sha256(os.getcwd().encode()).hexdigest()[:8]}'
 
 
 def files_of(folder):
@@ -109,25 +115,114 @@ def weights(order):
     return {name: SECONDS.get(name, size[name] / BYTES_A_SECOND) for name in order}
 
 
-class Told:
-    """Tells of each crate once."""
+def is_built(folder):
+    """Whether a crate was built, and none of its files is newer."""
+    stamp = folder / 'out/rlib/stamp'
+    return stamp.exists() and all((folder / file).stat().st_mtime <= stamp.stat().st_mtime for file in files_of(folder))
 
-    def __init__(self, order):
-        self.left, self.weight, self.begun = list(order), weights(order), time.monotonic()
-        self.count, self.all = len(order), sum(self.weight.values())
+
+def changed_crates(order, needs, copies):
+    """The crates of which anything is new since they were built, or of one that they stand on."""
+    found = set()
+    for name in order:
+        if found.intersection(needs[name]) or not all(is_built(copy / 'crates' / name) for copy in copies):
+            found.add(name)
+    return found
+
+
+def expected(order, needs, copies):
+    """About how many seconds each crate takes now, at the pace of the table, and which of them say something of the pace."""
+    weight, changed = weights(order), changed_crates(order, needs, copies)
+    for name in order:
+        if name not in changed:
+            weight[name] = SECONDS_LOOKED
+        elif any((copy / 'crates' / name / 'out/incremental').exists() for copy in copies):
+            weight[name] *= SHARE_OVER_KEPT
+    return weight, changed
+
+
+class Plan:
+    """Which crate is proved next, and how long what is left takes."""
+
+    def __init__(self, order, needs, weight, lanes):
+        self.order, self.needs, self.weight, self.lanes = order, needs, weight, lanes
+        self.way = ways(order, needs, weight)
+
+    def next(self, left, built, running):
+        """The crate whose proof begins now, and by how many processes; None where each waits for another one, or a lane is not free."""
+        if len(running) >= self.lanes:
+            return None
+        ready = [name for name in left if built.issuperset(self.needs[name])]
+        if not ready:
+            return None
+        name = max(ready, key=self.way.get)
+        # that on which the program waits longest has two processors, of more than two, and one that is alone has all
+        is_first = self.lanes > 2 and all(self.way[name] > self.way[other] for other in (*left, *running) if other != name)
+        return name, max(2 if is_first else 1, self.lanes // (len(ready) + len(running)))
+
+    def seconds_left(self, built, spent, pace):
+        """How many seconds the rest takes, where so much of each running proof is over. One that takes longer than was expected takes as much longer again, and
+        no more than a tenth."""
+        running = {name: ahead if (ahead := self.weight[name] * pace - seconds) > 0 else min(-ahead, seconds / 10) for name, seconds in spent.items()}
+        left, built, now = [name for name in self.order if name not in built and name not in running], set(built), 0.0
+        while left or running:
+            while (one := self.next(left, built, running)) is not None:
+                left.remove(one[0])
+                running[one[0]] = self.weight[one[0]] * pace
+            name = min(running, key=running.get)
+            taken = running.pop(name)
+            now += taken
+            running = {other: seconds - taken for other, seconds in running.items()}
+            built.add(name)
+        return now
+
+
+class Told:
+    """Tells of each crate once, and each minute what is being proved."""
+
+    def __init__(self, plan, telling, clock=time.monotonic, say=functools.partial(print, flush=True)):
+        self.plan, self.telling, self.clock, self.say, self.begun = plan, telling, clock, say, clock()
+        self.running, self.built, self.known, self.taken = {}, set(), SECONDS_KNOWN, SECONDS_KNOWN
 
     def minutes(self):
-        return (time.monotonic() - self.begun) / 60
+        return (self.clock() - self.begun) / 60
+
+    def begins(self, name):
+        self.running[name] = self.clock()
+
+    def pace(self):
+        """How many seconds this host takes for one of the table's. A proof that takes longer than it should tells so before it ends."""
+        known, taken = self.known, self.taken
+        for name, begun in dict(self.running).items():
+            spent, weight = self.clock() - begun, self.plan.weight[name]
+            if spent * known > weight * taken:
+                known, taken = known + weight, taken + spent
+        return taken / known
+
+    def minutes_left(self):
+        """About how many minutes are left, up to a whole one."""
+        now = self.clock()
+        return math.ceil(self.plan.seconds_left(set(self.built), {name: now - begun for name, begun in dict(self.running).items()}, self.pace()) / 60)
+
+    def left(self):
+        minutes = self.minutes_left()
+        return f'about {minutes} left' if minutes else 'all is proved'
 
     def tell(self, name):
-        if name not in self.left:
+        if name in self.built:
             return
-        self.left.remove(name)
-        left = sum(self.weight[other] for other in self.left)
-        # the first few say little of the rest
-        is_known = self.all - left > self.all // 10
-        about = f', about {self.minutes() * left / (self.all - left):.0f} left' if is_known else ''
-        print(f'{self.count - len(self.left)} of {self.count}, {name}: {self.minutes():.0f} minutes{about}', flush=True)
+        if name in self.telling and name in self.running:
+            self.known += self.plan.weight[name]
+            self.taken += self.clock() - self.running[name]
+        self.running.pop(name, None)
+        self.built.add(name)
+        self.say(f'{len(self.built)} of {len(self.plan.order)}, {name}: {self.minutes():.0f} minutes, {self.left()}')
+
+    def life(self):
+        """What is being proved by now, and for how long."""
+        now = self.clock()
+        proofs = ', '.join(f'{name} for {(now - begun) / 60:.0f}' for name, begun in dict(self.running).items())
+        return f'{self.minutes():.0f} minutes: {"proving " + proofs if proofs else "looking at the crates"}; {self.left()}'
 
 
 def done(words, folder):
@@ -157,13 +252,14 @@ class Proof:
                 raise Failed(f'{told}crates/{self.name}: {RT} lib ended with status {self.process.returncode}')
 
     def give_up(self):
-        os.killpg(self.process.pid, signal.SIGKILL)
+        # one that has ended by itself, with all that it started, is no group any more
+        with contextlib.suppress(ProcessLookupError):
+            os.killpg(self.process.pid, signal.SIGKILL)
         self.process.wait()
 
 
-def ways(order, needs):
+def ways(order, needs, weight):
     """About how many seconds it is from the beginning of each crate's proof to the program, by the longest way."""
-    weight = weights(order)
     found = {}
     for name in reversed(order):
         found[name] = weight[name] + max((found[other] for other in found if name in needs[other]), default=0)
@@ -189,21 +285,18 @@ def share(name, copy, copies):
             shutil.copytree(made, there, copy_function=os.link)
 
 
-def prove_side_by_side(told, order, needs, copies):
+def prove_side_by_side(told, plan, copies):
     """Proves the libraries, each once those that it stands on are built, one at a time in each copy: the toolchain locks what it works in. Returns them."""
-    way, left, built, running = ways(order, needs), [name for name in order if name != PROGRAM], set(), []
+    left, built, running = [name for name in plan.order if name != PROGRAM], set(), []
     try:
         while left or running:
-            ready = sorted((name for name in left if built.issuperset(needs[name])), key=way.get)
-            for copy in copies:
-                if ready and not any(proof.copy == copy for proof in running):
-                    name = ready.pop()
-                    left.remove(name)
-                    take_work(name, copy, copies)
-                    # that on which the program waits longest has two processors, of more than two, and one that is alone has all
-                    waits = [*left, *(proof.name for proof in running)]
-                    is_first = len(copies) > 2 and all(way[name] > way[other] for other in waits)
-                    running.append(Proof(name, copy, max(2 if is_first else 1, len(copies) // (1 + len(ready) + len(running)))))
+            while (one := plan.next(left, built, [proof.name for proof in running])) is not None:
+                name, processes = one
+                copy = next(copy for copy in copies if not any(proof.copy == copy for proof in running))
+                left.remove(name)
+                take_work(name, copy, copies)
+                told.begins(name)
+                running.append(Proof(name, copy, processes))
             time.sleep(0.1)
             for proof in [it for it in running if it.is_over()]:
                 running.remove(proof)
@@ -221,37 +314,50 @@ def main():
     words = sys.argv[1:]
     if words not in ([], ['arm64']):
         sys.exit(__doc__)
+    needed('rt')
     if words:
         target.compiler()
     order, lines, needs = crates()
-    told, count, proved = Told(order), jobs(), set()
+    count, proved = jobs(), set()
     # what is running is to end with this
-    signal.signal(signal.SIGTERM, lambda number, frame: sys.exit(128 + number))
+    for one in (signal.SIGINT, signal.SIGTERM):
+        signal.signal(one, lambda number, frame: sys.exit(128 + number))
+    root = clean.room() if count > 1 else Path('.')
+    copies = [root, *(root / f'copy-{number}' for number in range(2, count + 1))]
     try:
-        root = room() if count > 1 else Path('.')
-        print(f'{len(order)} crates, {count} at once' + (f', in {root}' if count > 1 else ''), flush=True)
         if count > 1:
-            copies = [root, *(root / f'copy-{number}' for number in range(2, count + 1))]
             for copy in copies:
                 bring(order, lines, copy)
-            proved = prove_side_by_side(told, order, needs, copies)
-        for name in order:
-            folder = root / 'crates' / name
-            if name in proved or (name == PROGRAM and words):
-                continue
-            done(['run', '--', '--help'] if name == PROGRAM else ['lib'], folder)
-            told.tell(name)
-        if words:
-            print(target.program(root, BUILT.parent / 'arm64'))
-            print(f'bin/arm64/gbkeep: built in {told.minutes():.0f} minutes')
-            return
-        BUILT.parent.mkdir(exist_ok=True)
-        made = BUILT.with_name('gbkeep.new')
-        shutil.copy(root / 'crates' / PROGRAM / 'out' / PROGRAM, made)
-        os.replace(made, BUILT)
+            clean.named(root).write_bytes(os.fsencode(os.getcwd()))
+        weight, changed = expected(order, needs, copies)
+        plan = Plan(order, needs, weight, count)
+        told = Told(plan, changed)
+        place = f', in {root}' if count > 1 else ''
+        print(f'{len(order)} crates, {len(changed)} of them to be proved, {count} at once{place}: about {told.minutes_left()} minutes', flush=True)
+        with alive(told.life, sys.stdout):
+            proved = prove_side_by_side(told, plan, copies) if count > 1 else set()
+            for name in order:
+                folder = root / 'crates' / name
+                if name in proved or (name == PROGRAM and words):
+                    continue
+                told.begins(name)
+                done(['run', '--', '--help'] if name == PROGRAM else ['lib'], folder)
+                told.tell(name)
+            if words:
+                told.begins(PROGRAM)
+                print(target.program(root, BUILT.parent / 'arm64'))
+                print(f'bin/arm64/gbkeep: built in {told.minutes():.0f} minutes')
+        if not words:
+            BUILT.parent.mkdir(exist_ok=True)
+            made = BUILT.with_name('gbkeep.new')
+            shutil.copy(root / 'crates' / PROGRAM / 'out' / PROGRAM, made)
+            os.replace(made, BUILT)
+            print(f'{BUILT}: built in {told.minutes():.0f} minutes')
     except Failed as failed:
         sys.exit(str(failed))
-    print(f'{BUILT}: built in {told.minutes():.0f} minutes')
+    except OSError as error:
+        sys.exit(f'build.py: {error.filename}: {error.strerror}')
+    print(f'{clean.sizes()}, for the next build: make clean-cache removes both')
 
 
 if __name__ == '__main__':

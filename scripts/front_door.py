@@ -4,7 +4,7 @@ Python and its tools say of it. Then it deletes each row of each table, in turn 
 usage: front_door.py             at the top of the repository
        front_door.py GBKEEP      this too: runs each command block as it stands, in a copy of the clone, and compares what it prints;
                                  compares the program's helps; installs it all below a folder; completes a name with a space in a shell"""
-import definitions, functools, importlib.util, os, pty, re, select, shutil, subprocess, sys, tempfile, time
+import definitions, functools, os, pty, re, select, shutil, subprocess, sys, tempfile, time
 from pathlib import Path
 
 FAULT_FILES = ['crates/cartridge/src/error.rt', 'crates/sector_device/src/device.rt', 'crates/script/src/error.rt', 'crates/session/src/error.rt',
@@ -158,7 +158,7 @@ def differences(texts):
     words = {*commands, 'help', '--help', '--version'}
     wrong += compared(COMPLETION, 'first word', completed(texts[COMPLETION], 'gbkeep', ''), words)
     wrong += compared(COMPLETION, 'word after help', completed(texts[COMPLETION], 'gbkeep', 'help', ''), commands)
-    wrong += compared(MAKE, 'target in its help', helps(texts), set(re.search(r'^\.PHONY: (.*)$', texts[MAKE], re.M)[1].split()) - {'help'})
+    wrong += compared(MAKE, 'target in its help', helps(texts), set(' '.join(re.findall(r'^(?:TARGETS|FREE) := (.*)$', texts[MAKE], re.M)).split()) - {'help'})
     for place, (start, lines) in helps_of(texts).items():
         help_text = re.search(r'const %s: &str = "(.*?)";' % start, texts[WORDS], re.S)
         wrong += compared(f'help of {place}', 'line', re.findall(r'^  ([\w-]+)', help_text[1] if help_text else '', re.M), lines)
@@ -288,9 +288,6 @@ def run_blocks(program, texts):
     wrong, count = [], 0
     for page in (README, MANUAL, PLAYERS, TESTERS):
         for block in blocks(texts[page]):
-            if importlib.util.find_spec('PIL') is None and any(re.search('make demo|gbkeep.png|picture=', line) for line, _ in block):
-                print(f'PIL is missing, so that these were not run: {"; ".join(line for line, _ in block)}')
-                continue
             with tempfile.TemporaryDirectory(prefix='front-') as room:
                 clone(room, program)
                 for line, wanted in block:

@@ -6,14 +6,19 @@ usage: library.py           for this computer
        library.py gate      right after `rt ci`: over the libraries that it left, so that crates/c_interface alone is proved
 
 RT names the prover, CC the C compiler. The proved part is built by `rt lib` in crates/c_interface, which proves what has changed first."""
+import math
 import os
 import subprocess
 import sys
 import tempfile
+import time
 from pathlib import Path
 
 from gbkeep import __version__
+from scripts import build as program
+from scripts.alive import alive, minutes
 from scripts.arm64 import target
+from scripts.doctor import needed
 
 TOP = Path(__file__).resolve().parent.parent
 LIBRARY, BIN = TOP / 'library', TOP / 'bin'
@@ -40,6 +45,39 @@ def run(words, **how):
     if result.returncode != 0:
         sys.exit(f'library.py: {words[0]} ended with {result.returncode}')
     return result
+
+
+class Proof:
+    """A proof of the library by `rt lib`, which proves one crate after another: what it has to do, and how far it is by what it leaves."""
+
+    def __init__(self):
+        self.order, _, needs = program.crates('c_interface')
+        self.weight, self.changed = program.expected(self.order, needs, [Path('.')])
+        self.begun = time.monotonic()
+
+    def says(self):
+        about = math.ceil(sum(self.weight.values()) / 60)
+        of = f'{len(self.order)} crates, {len(self.changed)} of them to be proved, one after another'
+        return f'proving the library: {of}: about {about} minute{"s" * (about > 1)}'
+
+    def life(self):
+        """How long it takes so far, how far it is, and about how long it takes still."""
+        taken = time.monotonic() - self.begun
+        left = [name for name in self.order if name in self.changed and not program.is_built(Path('crates', name))]
+        known, ahead = (sum(self.weight[name] for name in names) for names in (self.changed - set(left), left))
+        # as build.py: a pace that is known before anything is proved
+        seconds = ahead * (taken + program.SECONDS_KNOWN) / (known + program.SECONDS_KNOWN)
+        proving = f', proving {left[0]}' if left else ''
+        return f'{minutes(taken)}: {len(self.order) - len(left)} of {len(self.order)} crates are built{proving}; about {math.ceil(seconds / 60)} minutes left'
+
+
+def prove_library(crate):
+    """Proves what has changed of the crates that the library is made of."""
+    os.chdir(TOP)
+    proof = Proof()
+    print(proof.says(), flush=True)
+    with alive(proof.life, sys.stdout):
+        run([os.environ.get('RT', 'rt'), 'lib'], cwd=crate, stdout=subprocess.DEVNULL)
 
 
 def made(*words):
@@ -110,18 +148,22 @@ def main():
     if words not in ([], ['arm64'], ['gate']):
         sys.exit(__doc__)
     is_arm64, is_gate = words == ['arm64'], words == ['gate']
+    needed('rt', *(() if is_arm64 else ('cc', 'ar')))
     compiler = target.compiler() if is_arm64 else os.environ.get('CC', 'cc')
     archiver = target.tool('ar') if is_arm64 else 'ar'
     crate, place = TOP / 'crates/c_interface', BIN / 'arm64' if is_arm64 else BIN
     is_over_ci = is_gate and all(map(is_left_by_ci, below('c_interface')))
     if not is_over_ci:
-        run([os.environ.get('RT', 'rt'), 'lib'], cwd=crate, stdout=subprocess.DEVNULL)
+        prove_library(crate)
     place.mkdir(parents=True, exist_ok=True)
     with tempfile.TemporaryDirectory(dir=place) as folder:
         proved = crate / 'out/libc_interface.a'
         if is_arm64 or is_over_ci:
             proved = Path(folder).resolve() / 'libc_interface.a'
-            print(target.prove(TOP, 'c_interface', proved, '--crate-type', 'staticlib', target=target.TARGET if is_arm64 else target.HOST), flush=True)
+            says = f'proving c_interface for {target.TARGET if is_arm64 else target.HOST}, over libraries as they stand'
+            print(says, flush=True)
+            with alive(says, sys.stdout):
+                print(target.prove(TOP, 'c_interface', proved, '--crate-type', 'staticlib', target=target.TARGET if is_arm64 else target.HOST), flush=True)
         build(Path(folder), proved, compiler, archiver=archiver)
         if is_arm64:
             target.needed(Path(folder) / SHARED)

@@ -10,6 +10,7 @@ import tempfile
 from pathlib import Path
 
 from scripts.arm64 import target
+from scripts.doctor import needed
 
 TOP = Path(__file__).resolve().parent.parent
 SOURCES = TOP / 'players/libretro'
@@ -23,8 +24,7 @@ def main():
     if words not in ([], ['arm64']):
         sys.exit(__doc__)
     headers = os.environ.get('LIBRETRO') or '/usr/include/libretro-common'
-    if not os.path.exists(f'{headers}/libretro.h'):
-        sys.exit(f'libretro.py: there is no {headers}/libretro.h: install retroarch-dev')
+    needed('libretro.h', *(() if words else ('cc',)))
     compiler, out = (target.compiler(), TOP / 'bin/arm64') if words else (os.environ.get('CC') or 'cc', TOP / 'bin')
     out.mkdir(parents=True, exist_ok=True)
     with tempfile.TemporaryDirectory(dir=out) as folder:

@@ -13,7 +13,7 @@ of three. --keep writes docs/speed.csv, of which speed_chart.py makes a picture 
 
 `gate` counts a few ROMs, and fails where a frame costs more than a twentieth above its row of docs/speed.csv. It also looks at the code of program and
 library: the loops in which most instructions are made have the match on all opcodes in line, and a loop that is missing or that calls it fails. It ends with a
-line for each thing that it could not try, in the form `not tried: ..`."""
+note for each thing that it could not try."""
 import csv
 import os
 import re
@@ -25,6 +25,7 @@ import tempfile
 from pathlib import Path
 
 from examples.speed import build
+from scripts.not_tried import note
 
 ROOT = Path(__file__).resolve().parent.parent
 PLAYER = Path(__file__).with_name('shipped_player.c')
@@ -206,7 +207,7 @@ def count(words, is_kept):
             kept.append(row)
             print(shown(row), flush=True)
     for line in lacking:
-        print(f'not tried: {line}')
+        note(*line.split(': ', 1))
     if is_kept:
         new = TABLE.with_name('.speed.csv.new')
         with open(new, 'w', newline='') as file:
@@ -238,7 +239,7 @@ def gate(words):
         else:
             lacking.append('the loops of what ships: there is no objdump (binutils)')
     for line in lacking:
-        print(f'not tried: {line}')
+        note(*line.split(': ', 1))
     if wrong:
         sys.exit('\n'.join(f'shipped.py: {line}' for line in wrong))
 

@@ -22,6 +22,8 @@ import tempfile
 from pathlib import Path
 
 from scripts import library
+from scripts.alive import alive
+from scripts.doctor import needed
 
 TOP = Path(__file__).resolve().parent.parent
 WEB, DIST = TOP / 'web', TOP / 'dist/web'
@@ -118,8 +120,7 @@ def catching_toolchain(kit, folder, caught):
 def module_of(kit, room):
     """Proves the library, and leaves the module that its aarch64 build hands to clang, as text. Answers its path."""
     crate = TOP / 'crates' / CRATE
-    print('proving the library', flush=True)
-    run([RT, 'lib'], cwd=crate, stdout=subprocess.DEVNULL)
+    library.prove_library(crate)
     caught = room / 'module.bc'
     catching_toolchain(kit, room / 'toolchain', caught)
     below, named, needs = crates_below(CRATE)
@@ -137,9 +138,10 @@ def module_of(kit, room):
     kept = crate / 'out/incremental'
     if kept.is_dir():
         shutil.copytree(kept, room / 'incremental', dirs_exist_ok=True)
-    print(f'compiling it for {OTHER}', flush=True)
+    says = f'proving {CRATE} once more, and compiling it, for {OTHER}'
+    print(says, flush=True)
     log = room / 'log'
-    with log.open('w', encoding='utf-8') as file:
+    with log.open('w', encoding='utf-8') as file, alive(says, sys.stdout):
         built = subprocess.run([str(word) for word in words], cwd=crate, stdout=file, stderr=subprocess.STDOUT)
     if built.returncode != 0 or not caught.exists():
         sys.stderr.write(log.read_text(encoding='utf-8', errors='replace')[-2000:])
@@ -324,6 +326,7 @@ def leave(module):
 def main():
     if sys.argv[1:]:
         sys.exit(__doc__)
+    needed('rt', 'clang of rt')
     kit = Path(run([RT, 'doc'], stdout=subprocess.PIPE, text=True).stdout.strip()).parent
     with tempfile.TemporaryDirectory() as name:
         room = Path(name)

@@ -2,7 +2,7 @@
 
 usage: gbkeep-png PGM PNG
 
-PNG is a file that is not there, or a PNG, which is replaced. It needs PIL (Debian's package python3-pil)."""
+PNG is a file that is not there, or a PNG, which is replaced."""
 from typing import NoReturn
 
 from .input_files import printable, read_bytes

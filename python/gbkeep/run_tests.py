@@ -21,8 +21,7 @@ terminal in several. With --out a picture that differs leaves ROM-NUMBER.actual.
 is the place of the ROM among all that are wanted. On a terminal a line tells how far the run is, and the five slowest ROMs stand at the end. --shard 2/8
 takes every eighth ROM from the second on.
 
-The status is 0 if all are as wanted, and 1 if not, or if a folder or a list has no ROM. A wanted picture is read by PIL (Debian's package
-python3-pil)."""
+The status is 0 if all are as wanted, and 1 if not, or if a folder or a list has no ROM."""
 import argparse
 import contextlib
 import fnmatch

@@ -2,15 +2,20 @@
 import functools
 import importlib.util
 import os
+import struct
 import sys
 import tempfile
 import time
 import unittest
+import zlib
 from collections.abc import Callable, Iterable
 from pathlib import Path
 from typing import NoReturn, Optional
 
 from examples.demo.assemble import Assembler
+from gbkeep.pictures import PNG_HEAD
+from scripts.doctor import told
+from scripts.not_tried import note
 
 TOP = Path(__file__).resolve().parent.parent.parent
 # tools are run in other folders
@@ -18,8 +23,6 @@ os.environ['PYTHONPATH'] = os.pathsep.join((str(TOP / 'python'), str(TOP)))
 DEMO = TOP / 'examples/demo'
 CART = DEMO / 'demo.gb'
 DAY = 86_400
-# the tools that read pictures by PIL, a package of the machine
-READ_PICTURES = ('png', 'run_tests')
 # as much of a difference as is told
 MOST_GOT, MOST_WANTED = 3_000, 600
 # shows the clock's seconds, minutes, hours and low byte of the days as bits, in the first four rows of each tile
@@ -118,8 +121,8 @@ def tool_words(module: str, *flags: str) -> list[str]:
 
 
 def bare_words(module: str) -> list[str]:
-    """The same, without the packages of the machine where a tool needs none."""
-    return tool_words(module, *(() if module in READ_PICTURES else ('-S',)))
+    """The same, without the packages of the machine."""
+    return tool_words(module, '-S')
 
 
 def tests_in(names: dict[str, object]) -> list[Callable]:
@@ -147,7 +150,8 @@ def run_suite(what: str, suite: unittest.TestSuite) -> bool:
     """Runs tests and tells how they ended: whether all are right."""
     result = unittest.TextTestRunner(stream=sys.stdout, verbosity=0).run(suite)
     for reason in sorted({reason for _, reason in result.skipped}):
-        print(f'{what}: not all was tried: {reason}')
+        left_out, colon, why = reason.partition(': ')
+        note(f'{what}, {left_out}' if colon else what, why or reason)
     print(f'{what}: {result.testsRun} tests, {len(result.failures) + len(result.errors)} failed', flush=True)
     return result.wasSuccessful()
 
@@ -162,19 +166,40 @@ def run_room_tests(what: str, names: dict[str, object], usage: str, room: Option
 
 # ---- pictures and clocks
 
-def needs_pil() -> None:
-    """Skips the test where there is no PIL."""
+def needs_pil(what: str) -> None:
+    """Skips the test of that where there is no PIL."""
     if importlib.util.find_spec('PIL') is None:
-        raise unittest.SkipTest('PIL is missing: install python3-pil')
+        raise unittest.SkipTest(f'{what}: {told("PIL")}')
 
 
 def image_of(path: Path):
-    """A picture as PIL reads it; the test is skipped where there is no PIL."""
-    needs_pil()
+    """A picture as PIL reads it."""
     from PIL import Image
     with Image.open(path) as image:
         image.load()
         return image
+
+
+def parts_of_png(data: bytes) -> list[tuple[bytes, bytes]]:
+    """The parts of a PNG that is whole, each with its kind."""
+    found, at = [], len(PNG_HEAD)
+    while at < len(data):
+        length = int.from_bytes(data[at:at + 4], 'big')
+        found.append((data[at + 4:at + 8], data[at + 8:at + 8 + length]))
+        at += 12 + length
+    return found
+
+
+def written_png(path: Path) -> tuple[int, int, int, bytes]:
+    """Width, height, type of colours and pixels of a PNG as the package writes it: a byte a pixel, without filters."""
+    data = Path(path).read_bytes()
+    expect('a PNG', data[:8], PNG_HEAD)
+    parts = dict(parts_of_png(data))
+    width, height, depth, colours = struct.unpack('>IIBB', parts[b'IHDR'][:10])
+    raw = zlib.decompress(parts[b'IDAT'])
+    rows = [raw[at:at + 1 + width] for at in range(0, len(raw), 1 + width)]
+    expect('its rows', (depth, len(rows), {row[:1] for row in rows}, len(raw)), (8, height, {b'\0'}, height * (1 + width)))
+    return width, height, colours, b''.join(row[1:] for row in rows)
 
 
 def clock_cart(folder: Path) -> Path:

@@ -13,7 +13,7 @@ import time
 from pathlib import Path
 
 from gbkeep_tests import support
-from gbkeep_tests.support import CART, DEMO, expect, image_of, tool_words, until, wrong
+from gbkeep_tests.support import CART, DEMO, expect, tool_words, until, written_png, wrong
 
 # how long an answer may take
 SECONDS = 60
@@ -196,9 +196,9 @@ def test_where(room):
 
 def shades_of(path):
     """Width, height and the shades 0 to 3 of a PNG of greys whose pixels are two by two."""
-    image = image_of(path)
-    width, data = image.width, image.convert('L').tobytes()
-    return width // 2, image.height // 2, [[data[y * width + x] // 85 for x in range(0, width, 2)] for y in range(0, image.height, 2)]
+    width, height, colours, data = written_png(path)
+    expect('greys', colours, 0)
+    return width // 2, height // 2, [[data[y * width + x] // 85 for x in range(0, width, 2)] for y in range(0, height, 2)]
 
 
 def test_pictures(room):

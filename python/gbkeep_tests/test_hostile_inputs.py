@@ -28,7 +28,7 @@ from xml.etree import ElementTree
 
 from gbkeep.pictures import PNG_HEAD, chunk
 from gbkeep_tests import support
-from gbkeep_tests.support import CART, TOP, bare_words, needs_pil
+from gbkeep_tests.support import CART, TOP, bare_words
 
 SECONDS, MEMORY = 60, 1 << 30
 TEST_ROMS = TOP / 'examples/test_roms'
@@ -166,7 +166,6 @@ def attack_cut_film(room):
 
 
 def attack_png(room):
-    needs_pil()
     for target in ('picture.pgm', './picture.pgm', 'link.pgm', 'hard.pgm', 'run.gbkeep', 'run.rec', 'demo.gb', 'text.txt', 'fifo', 'folder', 'nowhere'):
         room.refused(f'a PNG over {target}', 'png', 'picture.pgm', target)
     for name, data in (('short.pgm', b'P2\n160 144\n3\n'), ('head.pgm', PICTURE[:-2]), ('more.pgm', PICTURE + b'0'), ('four.pgm', PICTURE[:-2] + b'4 '), ('empty.pgm', b''),
@@ -239,7 +238,6 @@ def attack_debugger(room):
 
 def attack_reports(room):
     """--junit and --bless never take a file that is read, or one of another kind."""
-    needs_pil()
     for name in ('passes.gb', 'fails.gb', 'prints.gb'):
         shutil.copy(TEST_ROMS / name, room.path(name))
     room.write('list.txt', 'passes.gb script=start.script\n')
@@ -267,7 +265,6 @@ def png(width=160, height=144, depth=8, colour=0, rows=None, head=b'', interlace
 
 def attack_pictures(room):
     """A picture that is none fails its own ROM, and the run goes on to its report."""
-    needs_pil()
     zeros = zlib.compressobj()
     bomb = b''.join(zeros.compress(bytes(1 << 20)) for _ in range(300)) + zeros.flush()
     pictures = {'head.pgm': b'P2\n160 144\n3\n', 'text.pgm': b'P2 x', 'empty.pgm': b'', 'empty.png': b'', 'head.png': PNG_HEAD, 'cut.png': png()[:60], 'colour.png': png(colour=9), 'depth.png': png(depth=3),
@@ -554,7 +551,6 @@ def attack_words(room):
 
 def attack_streams(room):
     """A standard stream that is closed, full, or read by nobody."""
-    needs_pil()
     room.write('many.txt', b'A\nB\n' * 10_000)
     for redirect, status in (('>&-', 1), ('> /dev/full', 1), ('| true', 0), ('2>&-', 0), ('<&-', 0), ('<&- 2>&-', 0)):
         for words in (('script', 'own', 'many.txt'), ('script', 'marks', 'missing'), ('movie', 'bk2', 'moves.txt', 'made.bk2'), ('verify', 'demo.gb', 'run.gbkeep', 'run.rec'),

@@ -15,6 +15,8 @@ import gbkeep
 from gbkeep.game import PICTURE_HEAD, bytes_of
 from gbkeep_tests import support
 from gbkeep_tests.support import TOP, expect
+from scripts.doctor import told
+from scripts.not_tried import note
 
 SOURCES = TOP / 'python'
 TOOLS = dict(re.findall(r'^(gbkeep-[a-z-]+) = "gbkeep\.([a-z_]+):start"$', (SOURCES / 'pyproject.toml').read_text(), re.M))
@@ -100,11 +102,12 @@ def test_places(folder):
 
 
 def test_missing(folder):
-    """What needs another package says which one, with a status, and does nothing."""
+    """What needs another package says which one, with a status, and does nothing; a picture needs none."""
     (folder / 'picture.pgm').write_bytes(PGM)
     bare = [sys.executable, '-S', '-B', '-m']
-    status, out, err = ran([*bare, 'gbkeep.png', folder / 'picture.pgm', folder / 'made.png'], PYTHONPATH=str(SOURCES))
-    expect('no PIL', (status, out, err.startswith('gbkeep-png: '), 'python3-pil' in err, err.count('\n'), (folder / 'made.png').exists()), (1, '', True, True, 1, False))
+    for name in ('made.png', 'again.png'):
+        expect('a PNG without packages', ran([*bare, 'gbkeep.png', folder / 'picture.pgm', folder / name], PYTHONPATH=str(SOURCES)), (0, '', ''))
+    expect('the same bytes', (folder / 'made.png').read_bytes() == (folder / 'again.png').read_bytes() == gbkeep.Picture(PGM).png(), True)
     status, out, err = ran([*bare, 'gbkeep.window', 'game.gb'], PYTHONPATH=str(SOURCES))
     expect('no pygame', (status, out, 'python3-pygame' in err, err.count('\n')), (1, '', True, 1))
     status, out, err = ran([*bare, 'gbkeep.window', '--help'], PYTHONPATH=str(SOURCES))
@@ -125,6 +128,7 @@ def test_bytes(folder):
         import numpy
     except ImportError:
         expect('no numpy', support.refusal(picture.array, ImportError) is not None, True)
+        note('the package, arrays', told('numpy'))
         return
     expect('an array', (picture.array().shape, int(picture.array().sum())), ((144, 160), 3 * 160 * 144))
     expect('bytes of an array', bytes_of(numpy.array([[1, 2], [3, 4]], numpy.uint8)[:, 1]), b'\2\4')

@@ -180,7 +180,6 @@ def test_states_of_a_recorded_game(room):
 
 def test_png(room):
     """`gbkeep-png` makes of what `gbkeep frame` writes what a picture's `png` gives."""
-    support.needs_pil()
     save = room.path('png.gbkeep')
     with Game(CART, save, room.program) as game:
         game.frames(0, 90)

@@ -17,7 +17,7 @@ from xml.etree import ElementTree
 
 from examples.demo.assemble import Assembler
 from gbkeep_tests import support
-from gbkeep_tests.support import TOP, expect, image_of, tool_words
+from gbkeep_tests.support import TOP, expect, tool_words, written_png
 
 EXAMPLES = TOP / 'examples'
 # how long a run may take
@@ -155,9 +155,8 @@ def json_of(room: Room, name: str) -> dict:
 
 def places_of(path: Path) -> list[bytes]:
     """The rows of a PNG with a palette, 480 by 432, with a byte a pixel."""
-    image = image_of(path)
-    expect(f'the head of {path.name}', (image.mode, image.size), ('P', (480, 432)))
-    data = image.tobytes()
+    *head, data = written_png(path)
+    expect(f'the head of {path.name}', head, [480, 432, 3])
     return [data[at:at + 480] for at in range(0, len(data), 480)]
 
 
@@ -187,7 +186,6 @@ def test_failing_roms(room):
 
 def test_sent_bytes(room):
     """Bytes that steer a terminal or are no text of XML are escaped, and of many the last are kept."""
-    support.needs_pil()
     room.write('sends.gb', bytes(Assembler().assemble(SENDS)))
     room.write('list.txt', 'sends.gb\nsends.gb frames=900 picture=picture.pgm\n')
     room.write('picture.pgm', b'P2\n160 144\n3\n' + b'0 ' * (160 * 144))
@@ -251,7 +249,6 @@ def test_bytes_wanted(room):
 
 
 def test_pictures(room):
-    support.needs_pil()
     room.write('list.txt', 'demo.gb frames=3 picture=demo.png\ndemo.gb frames=3 picture=demo.pgm\n')
     status, lines, err = room.tool('list.txt')
     expect('pictures that are missing', (status, lines[:2], err), (1, [f'FAIL demo.gb: not run: there is no {name}: --bless stores the picture as it is now' for name in ('demo.png', 'demo.pgm')], ''))

@@ -4,7 +4,7 @@ back by each key that does; and ends it by Ctrl-C and by a SIGTERM. It gives it 
 
 usage: test_window.py [GBKEEP [TEST..] [PICTURE.png]]    PICTURE: where a picture of the whole window goes
 
-It needs Debian's packages xvfb, xdotool, python3-pygame and python3-pil, and installs nothing. The status is 1 where the window does not show the game, where
+It needs Debian's packages xvfb, xdotool and python3-pygame, and installs nothing. The status is 1 where the window does not show the game, where
 what its title told as saved is gone after a SIGKILL, where the score of a second before is, or where any of the others is not shown."""
 import hashlib
 import os
@@ -17,12 +17,14 @@ import subprocess
 import sys
 import tempfile
 import time
+import zlib
 from pathlib import Path
 
 from examples.demo.check import glyphs, status_line
 from gbkeep.game import HEIGHT, WIDTH, Game, run
+from gbkeep.pictures import PNG_HEAD, chunk
 from gbkeep_tests import support
-from gbkeep_tests.support import DAY, DEMO, TOP, clock_cart, image_of, seconds_shown, tool_words, wrong
+from gbkeep_tests.support import DAY, DEMO, TOP, clock_cart, seconds_shown, tool_words, written_png, wrong
 
 SCALE = 3
 # where a picture of the whole window goes
@@ -45,7 +47,7 @@ def as_pgm(shades):
 
 def shades_of(png):
     """The shades of a PNG that the window leaves."""
-    raw = image_of(png).convert('L').tobytes()
+    raw = written_png(png)[3]
     return [raw[(y * WIDTH * SCALE + x) * SCALE] // 85 for y in range(HEIGHT) for x in range(WIDTH)]
 
 
@@ -202,9 +204,9 @@ def sweep(screen, rows):
 
 
 def leave_picture(player, path):
-    from PIL import Image
-    pixels = bytes(part for row in player.pixels() for colour in row for part in colour)
-    Image.frombytes('RGB', (WIDTH * SCALE, HEIGHT * SCALE), pixels).save(path, 'PNG', optimize=True)
+    rows = b''.join(b'\0' + bytes(part for colour in row for part in colour) for row in player.pixels())
+    head = struct.pack('>IIBBBBB', WIDTH * SCALE, HEIGHT * SCALE, 8, 2, 0, 0, 0)
+    Path(path).write_bytes(PNG_HEAD + chunk(b'IHDR', head) + chunk(b'IDAT', zlib.compress(rows, 9)) + chunk(b'IEND', b''))
 
 
 def test_play_and_kill(open_window, screen, room, gbkeep):

@@ -4,6 +4,7 @@ import resource
 import subprocess
 
 from room import LOOP, PGM, PICTURE, SECONDS
+from scripts.doctor import tries
 from test_recordings import cartridge, copy, new_pair, unchanged
 
 # what `export` writes of a cartridge with 32 KiB of RAM and a battery
@@ -76,7 +77,7 @@ def test_what_stands_at_a_name_is_not_replaced(room):
     os.symlink('all', room.folder / 'link2')
     os.mkdir(room.folder / 'folder')
     taken = ['kept.sav', 'zeros.gbkeep', 'game.gbkeep', 'game.gb', 'group', 'all', 'link', 'link2', 'folder']
-    if os.geteuid() == 0:
+    if tries('program, files of others', 'root'):
         room.write('other', b'')
         os.chown(room.folder / 'other', 65534, 65534)
         taken.append('other')

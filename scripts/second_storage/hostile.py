@@ -18,6 +18,7 @@ seconds, or 60 where GBKEEP_EMULATED is set: where another processor is emulated
 import fcntl, os, random, re, resource, shutil, signal, subprocess, sys, tempfile, threading, time
 from gbkeep import save_files as ref
 from gbkeep.save_files import get, put
+from scripts.doctor import tries
 
 GB = os.path.abspath(sys.argv[1]) if len(sys.argv) > 1 else ''
 ROOM = tempfile.mkdtemp(prefix='hostile-')
@@ -434,7 +435,7 @@ def no_leave(seed, image):
     for words in (('play', CART, SAVE, SCRIPT), ('frame', CART, SAVE, OUT), ('trace', CART, SAVE, '1'), ('debug', CART, SAVE)):
         refuses('places', seed, image, 'device failed', *words, **as_nobody())
     os.chmod(SAVE, 0o644)
-    if os.geteuid() == 0:
+    if tries('hostile files, what may not be written', 'root'):
         other = os.path.join(ROOM, 'other.gbkeep')
         refuses('places', seed, image, 'device failed', 'new', CART, other, '300', **as_nobody())
         if os.path.exists(other):
@@ -535,7 +536,7 @@ def interrupted_new(rnd, seed, image):
 
 def small_disk(seed, image):
     """On a file system that has no room for all sectors `new` is refused, and leaves nothing."""
-    if os.geteuid() != 0 or not shutil.which('unshare'):
+    if not tries('hostile files, a small disk', 'root', 'unshare'):
         return
     disk = os.path.join(ROOM, 'disk')
     os.makedirs(disk, exist_ok=True)
@@ -767,7 +768,7 @@ def bare_root():
 
 def bare(rnd, seed):
     """The same in a root without /dev; and one that can't be read either, where nothing is done."""
-    if os.geteuid() != 0:
+    if not tries('hostile files, a root without /dev', 'root'):
         return
     root = bare_root()
     cart, image = a_game(rnd)
@@ -929,9 +930,8 @@ def streams(rnd, seed):
 
 
 def injected(rnd, seed):
-    if not shutil.which('strace'):
-        print('there is no strace: no call is made to fail')
-        return
+    if not tries('hostile files, calls of the system that fail', 'strace'):
+        return False
     import injected as kind
     kind.injected(rnd, seed)
 
@@ -958,7 +958,7 @@ def states(rnd, seed):
 
 def hosts(rnd, seed):
     import hosts as kind
-    kind.hosts(rnd, seed)
+    return kind.hosts(rnd, seed)
 
 
 KINDS = {'saves': saves, 'scripts': scripts, 'bytes': arbitrary, 'kills': kills, 'holds': holds, 'places': places, 'pipes': pipes,
@@ -970,7 +970,9 @@ def run(kind, seconds, first):
     start, seed, before = time.time(), first, differences
     while time.time() - start < seconds:
         try:
-            KINDS[kind](random.Random('%s-%d' % (kind, seed)), seed)
+            # one that answers so has told why it tries nothing
+            if KINDS[kind](random.Random('%s-%d' % (kind, seed)), seed) is False:
+                return
         except subprocess.TimeoutExpired:
             differs(kind, seed, 'takes longer than %d seconds' % LONGEST)
         seed += 1

@@ -10,6 +10,7 @@ from batteries import WITH_BATTERY, battery_of, random_battery, taken
 from hostile import CART, ROOM, SAVE, SCRIPT, differs, gbkeep, random_rom
 from gbkeep.save_files import SECTOR, get, put
 from gbkeep import library
+from scripts.not_tried import note
 
 EXPORTED = os.path.join(ROOM, 'exported.sav')
 
@@ -22,7 +23,7 @@ def has_library():
     try:
         library._library()
     except library.Refused as why:
-        print('%s: no host is tried' % why)
+        note('hostile files, hosts of the library', why)
         return False
     return True
 
@@ -234,7 +235,7 @@ def rnd_count(rnd):
 
 def hosts(rnd, seed):
     if not has_library():
-        return
+        return False
     rom = random_rom(rnd)
     put(CART, rom)
     host = Host(rnd, rom)

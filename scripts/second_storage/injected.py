@@ -3,10 +3,11 @@
 Debian's strace lets a chosen call of a command fail, or kills the program there, and a library of some lines of C, where there is a C
 compiler, cuts a write short. The game in SAVE must be one that the second reader takes up, with every input that was told; CART and
 SCRIPT keep their bytes; and what `new` leaves is a game, or an empty file, which the next `new` takes up."""
-import os, re, shutil, subprocess
+import os, re, subprocess
 import hostile
 from gbkeep import save_files as ref
 from gbkeep.save_files import get, put
+from scripts.doctor import compiler, tries
 
 CALLS = 'openat,read,pread64,write,pwrite64,fsync,flock,ftruncate,statx,rename,unlink'
 FAULTS = {'openat': ['EIO', 'EMFILE', 'EINTR'], 'read': ['EIO', 'EINTR', 'EAGAIN'], 'pread64': ['EIO', 'EINTR'], 'write': ['EIO', 'ENOSPC', 'EINTR', 'EAGAIN'],
@@ -181,13 +182,12 @@ def of_import(rnd, seed):
 
 def short_writes(rnd, seed):
     """A write of SAVE that takes half of what it is given is gone on with."""
-    compiler = shutil.which('cc')
-    if compiler is None:
+    if not tries('hostile files, writes that are cut short', 'cc'):
         return
     source, library = os.path.join(hostile.ROOM, 'short.c'), os.path.join(hostile.ROOM, 'short.so')
     if not os.path.exists(library):
         put(source, SHORT.encode())
-        subprocess.run([compiler, '-shared', '-fPIC', '-O1', '-o', library, source, '-ldl'], check=True)
+        subprocess.run([*compiler(), '-shared', '-fPIC', '-O1', '-o', library, source, '-ldl'], check=True)
     cart, image = hostile.a_game(rnd)
     script = script_of(rnd)
     for number in (1, 2, rnd.randrange(200)):

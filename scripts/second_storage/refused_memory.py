@@ -10,6 +10,7 @@ import os, shutil, subprocess, sys, tempfile
 import recordings
 from gbkeep import save_files as ref
 from gbkeep.save_files import get, put
+from scripts.doctor import compiler, tries
 
 ROOM = tempfile.mkdtemp(prefix='refused-')
 CART, SAVE, NEW, SCRIPT, OUT, TOLD = (os.path.join(ROOM, name) for name in ('rom.gb', 'game.gbkeep', 'new.gbkeep', 'moves.script', 'out.pgm', 'told'))
@@ -62,12 +63,11 @@ def differs(what):
 
 def library():
     """The library that refuses, or None."""
-    compiler = shutil.which('cc')
-    if compiler is None:
+    if not tries('refused allocations', 'cc'):
         return None
     source, made = os.path.join(ROOM, 'refuse.c'), os.path.join(ROOM, 'refuse.so')
     put(source, SOURCE.encode())
-    subprocess.run([compiler, '-shared', '-fPIC', '-O1', '-o', made, source, '-ldl'], check=True)
+    subprocess.run([*compiler(), '-shared', '-fPIC', '-O1', '-o', made, source, '-ldl'], check=True)
     return made
 
 
@@ -162,7 +162,6 @@ def main(words):
         return 2
     loaded = library()
     if loaded is None:
-        print('there is no C compiler: nothing is tried')
         return 0
     commands(os.path.abspath(words[0]), loaded)
     if len(words) == 2:

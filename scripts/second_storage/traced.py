@@ -14,6 +14,7 @@ import recorded
 import recordings
 from gbkeep import save_files as ref
 from gbkeep.save_files import get, put
+from scripts.doctor import tries
 
 CALL = re.compile(r'^\d*\s*(\w+)\((.*)\)\s+= (-?\d+)')
 
@@ -279,8 +280,7 @@ def main():
     if not words:
         print(__doc__)
         return 2
-    if not shutil.which('strace'):
-        print('there is no strace: no call is followed')
+    if not tries('calls of the save file', 'strace'):
         return 0
     hostile.GB = os.path.abspath(words[0])
     games, seed = int(words[1]) if len(words) > 1 else 10, int(words[2]) if len(words) > 2 else 1

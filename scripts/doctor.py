@@ -1,0 +1,342 @@
+"""The one table of what is needed, by each target of the Makefile and by each part of the gate, and the name of Debian's package that has it.
+
+usage: doctor.py                      tells what is there, what is missing, and what each missing thing costs
+       doctor.py TARGET..             looks for what these targets need: a line for each thing that is missing, and then status 1
+       doctor.py --try WHAT NEED..    status 0 where all is there; else notes that WHAT is not tried, and why
+       doctor.py --packages TARGET..  Debian's packages of what these targets need or leave out, as far as it is missing
+
+`make` looks by this before it proves or builds anything. What a file is built by is looked for only where that file is not up to date. RT, CC, LIBRETRO,
+PYTHON, WEB_PYTHON, ARCH and KERNEL are those of the Makefile."""
+from __future__ import annotations
+
+import functools
+import os
+import shutil
+import subprocess
+import sys
+from pathlib import Path
+
+PYTHON = (3, 10)
+TOP = Path(__file__).resolve().parent.parent
+# where programs of the system's are that a user does not have on his search path
+ALSO = '/usr/sbin:/sbin'
+
+
+# ---- how it is looked for
+
+def word(name, default):
+    """A variable of the Makefile's, as it was given."""
+    return os.environ.get(name, '').strip() or default
+
+
+def found(name):
+    """Whether there is such a command."""
+    return shutil.which(name, path='%s:%s' % (os.environ.get('PATH', os.defpath), ALSO)) is not None
+
+
+def is_done(*words, **how):
+    """Whether a command ends well."""
+    try:
+        done = subprocess.run([str(one) for one in words], stdout=subprocess.DEVNULL, stderr=subprocess.DEVNULL, stdin=subprocess.DEVNULL, **how)
+        return done.returncode == 0
+    except OSError:
+        return False
+
+
+def compiler():
+    """The words of the C compiler."""
+    return word('CC', 'cc').split()
+
+
+def compiles(*flags):
+    """Whether the C compiler makes a shared object of a file that asks for the C library."""
+    return found(compiler()[0]) and is_done(*compiler(), *flags, '-shared', '-fPIC', '-x', 'c', '-include', 'stdlib.h', '-o', '/dev/null', '/dev/null')
+
+
+def has_module(name, variable):
+    """Whether the Python of a variable has a module, or else Debian's."""
+    given = os.environ.get(variable)
+    asks = 'import importlib.util, sys; sys.exit(importlib.util.find_spec("%s") is None)' % name
+    return any(is_done(python, '-c', asks) for python in ([given] if given else ['python3', '/usr/bin/python3']))
+
+
+@functools.lru_cache(None)
+def kit():
+    """The toolchain's folder, or None."""
+    try:
+        said = subprocess.run([word('RT', 'rt'), 'doc'], stdout=subprocess.PIPE, stderr=subprocess.DEVNULL, stdin=subprocess.DEVNULL, universal_newlines=True)
+    except OSError:
+        return None
+    return Path(said.stdout.strip()).parent if said.returncode == 0 and said.stdout.strip() else None
+
+
+def in_kit(*names):
+    return kit() is not None and all(os.access(str(kit() / name), os.X_OK) for name in names)
+
+
+def cross_libc():
+    return 'CC_ARM64' in os.environ or any(map(os.path.exists, ('/usr/aarch64-linux-gnu/include/errno.h', '/usr/include/aarch64-linux-gnu/errno.h')))
+
+
+class Need:
+    """A thing that is looked for: Debian's packages that have it, and what more is to be said where it is missing: in what other way it may be, and a hint."""
+
+    def __init__(self, packages, look, hint='', other_way=''):
+        self.packages, self.look, self.hint, self.other_way = packages.split(), look, hint, other_way
+
+
+def command(packages, *names):
+    return Need(packages, lambda: all(map(found, names)))
+
+
+NEEDS = {
+    'rt': Need('', lambda: found(word('RT', 'rt')),
+               "the command of Rattle's toolchain, a folder that is not part of Debian (README.md, To have it); RT=PATH names it"),
+    'clang of rt': Need('', lambda: in_kit('bin/rattle', 'toolchain/bin/clang', 'toolchain/bin/ld.lld'),
+                        "the compiler in the folder of Rattle's toolchain, which is not whole"),
+    'cc': Need('gcc libc6-dev', compiles, 'CC=NAME names another compiler', 'or it finds no C library'),
+    'sanitizers': Need('gcc', lambda: compiles('-fsanitize=address,undefined'), 'CC=NAME names another compiler', 'or not those of the C compiler'),
+    'ar': command('binutils', 'ar'),
+    'strip': command('binutils', 'strip'),
+    'objdump': command('binutils', 'objdump'),
+    'dpkg-deb': command('dpkg', 'dpkg-deb', 'dpkg'),
+    'libretro.h': Need('retroarch-dev', lambda: os.path.exists(word('LIBRETRO', '/usr/include/libretro-common') + '/libretro.h'),
+                       'LIBRETRO=FOLDER names where it is'),
+    'gcc for aarch64': Need('gcc-aarch64-linux-gnu', lambda: found(word('CC_ARM64', 'aarch64-linux-gnu-gcc'))),
+    'C library for aarch64': Need('libc6-dev-arm64-cross', cross_libc),
+    'binutils for aarch64': command('binutils-aarch64-linux-gnu', *('aarch64-linux-gnu-' + name for name in ('ar', 'objdump', 'readelf', 'strip'))),
+    'git': command('git', 'git'),
+    'bash': command('bash', 'bash'),
+    'pyflakes3': command('pyflakes3', 'pyflakes3'),
+    'strace': Need('strace', lambda: found('strace') and is_done('strace', '-o', '/dev/null', 'true'), other_way='or it may follow no process'),
+    'unshare': Need('util-linux', lambda: found('unshare') and is_done('unshare', '--mount', 'true'), other_way='or it is refused here'),
+    'valgrind': command('valgrind', 'valgrind'),
+    'pygame': Need('python3-pygame', lambda: has_module('pygame', 'PYTHON'), 'PYTHON=NAME names the Python that has it'),
+    'selenium': Need('python3-selenium', lambda: has_module('selenium', 'WEB_PYTHON'), 'WEB_PYTHON=NAME names the Python that has it'),
+    'PIL': Need('python3-pil', lambda: has_module('PIL', 'PIL_PYTHON'), 'PIL_PYTHON=NAME names the Python that has it'),
+    'numpy': Need('python3-numpy', lambda: has_module('numpy', 'PIL_PYTHON'), 'PIL_PYTHON=NAME names the Python that has it'),
+    'Xvfb': command('xvfb', 'Xvfb'),
+    'xdotool': command('xdotool', 'xdotool'),
+    'retroarch': command('retroarch', 'retroarch'),
+    'chromium': command('chromium', 'chromium'),
+    'chromedriver': command('chromium-driver', 'chromedriver'),
+    'firefox-esr': command('firefox-esr', 'firefox-esr'),
+    'lintian': command('lintian', 'lintian'),
+    'desktop-file-validate': command('desktop-file-utils', 'desktop-file-validate'),
+    'debootstrap': command('debootstrap', 'debootstrap'),
+    'qemu-aarch64-static': command('qemu-user-static', 'qemu-aarch64-static'),
+    'qemu-aarch64': command('qemu-user', 'qemu-aarch64'),
+    'qemu-system-x86_64': command('qemu-system-x86', 'qemu-system-x86_64'),
+    'busybox': command('busybox-static', 'busybox'),
+    'mkfs.exfat': command('exfatprogs', 'mkfs.exfat'),
+    'mkfs.vfat': command('dosfstools', 'mkfs.vfat'),
+    'mcopy': command('mtools', 'mcopy'),
+    'mount.exfat-fuse': command('exfat-fuse', 'mount.exfat-fuse'),
+    'KERNEL': Need('', lambda: os.path.isdir(word('KERNEL', '')), "KERNEL=FOLDER names a folder that a package linux-image-.. of Debian's was unpacked into"),
+    'root': Need('', lambda: os.geteuid() == 0, 'this is run by another user, and sudo make TARGET by root'),
+}
+
+# ---- who needs it
+
+ARM64 = ('rt', 'gcc for aarch64', 'C library for aarch64', 'binutils for aarch64')
+# what a file is built by, and of which built files
+FILES = {
+    'bin/gbkeep': (('rt',), ()),
+    'bin/arm64/gbkeep': (ARM64, ()),
+    'bin/libgbkeep.so': (('rt', 'cc', 'ar'), ()),
+    'bin/arm64/libgbkeep.so': (ARM64, ()),
+    'bin/gbkeep_libretro.so': (('cc', 'libretro.h'), ('bin/libgbkeep.so',)),
+    'bin/arm64/gbkeep_libretro.so': (('gcc for aarch64', 'C library for aarch64', 'binutils for aarch64', 'libretro.h'), ('bin/arm64/libgbkeep.so',)),
+    'dist/web/gbkeep.wasm': (('rt', 'clang of rt'), ()),
+}
+WINDOW = ('Xvfb', 'xdotool', 'pygame')
+# what a target needs, and of which files it is made or run
+TARGETS = {
+    'build': ((), ('OUT/gbkeep',)),
+    'demo': ((), ('bin/gbkeep',)),
+    'play': (('pygame',), ('bin/gbkeep',)),
+    'install': ((), ('OUT/gbkeep',)),
+    'uninstall': ((), ()),
+    'libretro': ((), ('OUT/gbkeep_libretro.so',)),
+    'library': ((), ('OUT/libgbkeep.so',)),
+    'web': ((), ('dist/web/gbkeep.wasm',)),
+    'dist': (('rt', 'git', 'dpkg-deb', 'strip'), ('OUT/gbkeep', 'OUT/libgbkeep.so')),
+    'run': (('rt',), ()),
+    'check': (('rt',), ()),
+    'edits': (('rt',), ()),
+    'lint': (('pyflakes3',), ()),
+    'test': (('rt', 'bash'), ()),
+    'bench': (('rt', 'valgrind'), ('bin/gbkeep', 'bin/gbkeep_libretro.so')),
+    'compare': ((), ('bin/gbkeep',)),
+    'hostile': ((), ('bin/gbkeep',)),
+    'fuzz': ((), ('bin/gbkeep',)),
+    'strace': (('strace',), ('bin/gbkeep',)),
+    'memory': (('rt', 'cc'), ('bin/gbkeep',)),
+    'test-window': (WINDOW, ('bin/gbkeep',)),
+    'test-library': (('cc',), ('bin/gbkeep', 'bin/libgbkeep.so')),
+    'test-arm64': (('qemu-aarch64-static', 'objdump', 'gcc for aarch64', 'C library for aarch64', 'binutils for aarch64'), ('bin/gbkeep', 'bin/arm64/gbkeep')),
+    'test-packages': (('root', 'dpkg-deb', 'lintian', 'desktop-file-validate', 'debootstrap'), ()),
+    'test-reproducible': (('rt', 'git', 'dpkg-deb', 'strip', 'cc', 'ar', 'libretro.h'), ()),
+    'test-slow-disk': (('cc', *WINDOW), ('bin/gbkeep', 'bin/gbkeep_libretro.so')),
+    'test-cards': (('root', 'KERNEL', 'qemu-system-x86_64', 'busybox', 'mkfs.exfat', 'mkfs.vfat', 'mcopy', 'mount.exfat-fuse'), ('bin/gbkeep',)),
+    'test-web': (('cc', 'selenium', 'chromium', 'chromedriver'), ('bin/gbkeep', 'dist/web/gbkeep.wasm')),
+    'test-libretro': (('cc', 'libretro.h', 'sanitizers'), ('bin/gbkeep', 'bin/gbkeep_libretro.so')),
+    'test-retroarch': (('retroarch', 'Xvfb'), ('bin/gbkeep', 'bin/gbkeep_libretro.so')),
+}
+# those that need nothing but Python, and those that keep nothing from anybody
+FREE = ('help', 'doctor', 'clean', 'clean-cache')
+# what a target leaves out where a thing is missing that it does not need
+LEFT_OUT = {
+    'test': {
+        'pyflakes3': 'no Python is looked at',
+        'git': 'no commit is told as the one that has passed',
+        'strace': 'no system call is followed, or made to fail',
+        'cc': 'the library for C and the core are not tried, no allocation is refused, no write is cut short',
+        'ar': 'the library for C and the core are not tried',
+        'libretro.h': 'the core is not tried',
+        'sanitizers': 'the core is given no garbage',
+        'valgrind': 'the instructions of what ships are not counted',
+        'objdump': 'the loops of what ships are not looked at',
+        'root': 'files of others, a small disk and a root without /dev are not tried',
+        'unshare': 'a small disk is not tried',
+        'PIL': 'no picture is read by a second reader',
+        'numpy': 'no array of a picture is tried',
+    },
+    'bench': {'strace': 'no call of the save file is counted'},
+    'hostile': {'strace': 'no system call is made to fail', 'cc': 'no write is cut short',
+                'root': 'files of others, a small disk and a root without /dev are not tried'},
+    'test-library': {'sanitizers': 'it is tried without them'},
+    'test-web': {'strace': 'no call of a save is followed', 'firefox-esr': 'Firefox is not tried', 'sanitizers': 'the heap is tried without them'},
+    'test-arm64': {'qemu-aarch64': 'no instruction is counted', 'valgrind': 'no instruction of this computer is counted', 'libretro.h': 'the core is not tried',
+                   'cc': 'the core is not tried'},
+    'dist': {'libretro.h': 'there is no package of the core', 'cc': 'there is no package of the core'},
+}
+
+
+# ---- what is answered
+
+@functools.lru_cache(None)
+def is_there(need):
+    return NEEDS[need].look()
+
+
+def told(need):
+    """The line of a thing that is missing."""
+    one = NEEDS[need]
+    said = {'rt': word('RT', 'rt'), 'cc': word('CC', 'cc')}.get(need, need) + ' is missing' + ', ' * bool(one.other_way) + one.other_way
+    if not one.packages:
+        return f'{said}: {one.hint}'
+    return f'{said}: install {" and ".join(one.packages)}' + (f' ({one.hint})' if one.hint else '')
+
+
+def missing(*needs):
+    """A line for each of these that is not there."""
+    return [told(need) for need in dict.fromkeys(needs) if not is_there(need)]
+
+
+def tries(what, *needs):
+    """Whether all is there that a test needs. Where it is not, that is noted for the end of the gate."""
+    from scripts.not_tried import note
+
+    lines = missing(*needs)
+    for line in lines:
+        note(what, line)
+    return not lines
+
+
+def needed(*needs):
+    """Ends a script that needs what is missing, with a line for each thing."""
+    lines = missing(*needs)
+    if lines:
+        sys.exit('\n'.join(f'{Path(sys.argv[0]).name}: {line}' for line in lines))
+
+
+def is_arm64():
+    return word('ARCH', '') == 'arm64'
+
+
+def parts_of(target, arm64):
+    """What a target needs, and the files that it is made of, for this computer or for aarch64."""
+    own, files = TARGETS.get(target) or ((), (target,) if target in FILES else ())
+    if target == 'dist':
+        # the package of the core is made where the core can be
+        files += ('OUT/gbkeep_libretro.so',) * is_there('libretro.h')
+        own = tuple('binutils for aarch64' if arm64 and need == 'strip' else need for need in own)
+    return own, [name.replace('OUT', 'bin/arm64' if arm64 else 'bin') for name in files]
+
+
+@functools.lru_cache(None)
+def is_up_to_date(name):
+    """Whether make would leave a file as it is."""
+    env = {one: value for one, value in os.environ.items() if one not in ('MAKEFLAGS', 'MFLAGS', 'MAKELEVEL', 'MAKEOVERRIDES')}
+    return is_done('make', '-s', '-q', 'LOOK=', name, cwd=str(TOP), env=env)
+
+
+def built_by(name):
+    """What a file is built by, and the files that it is built of, where they are not up to date."""
+    own, files = FILES[name]
+    by = [*own, *(need for file in files for need in built_by(file))]
+    # make is asked only where something is missing
+    return [] if all(map(is_there, by)) or is_up_to_date(name) else by
+
+
+def asked(target):
+    """What a target, or a file, needs now."""
+    own, files = parts_of(target, is_arm64())
+    return [*own, *(need for name in files for need in built_by(name))]
+
+
+def table():
+    """A row for each thing, and below one that is missing what it costs."""
+    print(f'there    {"python3":22} {".".join(map(str, sys.version_info[:3]))}')
+    for need, one in NEEDS.items():
+        print(f'{"there   " if is_there(need) else "missing "} {need:22} {" ".join(one.packages)}'.rstrip())
+        if is_there(need):
+            continue
+        if not one.packages:
+            print(wrapped(one.hint))
+        # a target that needs what is there alone, since it was built already, can be run
+        lost = [target for target in TARGETS if need in asked(target)]
+        if need in ARM64[1:]:
+            lost += [f'{target} ARCH=arm64' for target in TARGETS if any('OUT' in file for file in TARGETS[target][1])]
+        if lost:
+            print(wrapped("can't be run: make " + ', '.join(lost)))
+        for target, costs in LEFT_OUT.items():
+            if need in costs and target not in lost:
+                print(wrapped(f'make {target}: {costs[need]}'))
+
+
+def wrapped(text, width=80):
+    """A text below a row, in lines of so many columns."""
+    import textwrap
+    return '\n'.join(textwrap.wrap(text, width, initial_indent=' ' * 9, subsequent_indent=' ' * 11, break_on_hyphens=False))
+
+
+def main(words):
+    if sys.version_info < PYTHON:
+        sys.exit('python3 is %d.%d: gbkeep needs Python %d.%d or later' % (*sys.version_info[:2], *PYTHON))
+    if words[:1] == ['--try'] and len(words) > 2 and all(need in NEEDS for need in words[2:]):
+        sys.exit(0 if tries(*words[1:]) else 1)
+    if words[:1] == ['--packages'] and all(target in TARGETS for target in words[1:]):
+        needs = [need for target in words[1:] for need in (*asked(target), *LEFT_OUT.get(target, ()))]
+        print(*dict.fromkeys(package for need in needs if not is_there(need) for package in NEEDS[need].packages))
+        return
+    if any(one.startswith('-') for one in words):
+        sys.exit(__doc__)
+    if not words:
+        from scripts import clean
+        table()
+        print(clean.sizes())
+        return
+    lines = missing(*(need for target in words for need in asked(target)))
+    if lines:
+        sys.exit('\n'.join(lines))
+
+
+if __name__ == '__main__':
+    try:
+        main(sys.argv[1:])
+        sys.stdout.flush()
+    except BrokenPipeError:
+        # whoever reads the table has enough of it
+        os.dup2(os.open(os.devnull, os.O_WRONLY), sys.stdout.fileno())
