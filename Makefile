@@ -14,6 +14,8 @@ endif
 export PYTHONPATH := $(CURDIR)/python:$(CURDIR)$(if $(PYTHONPATH),:$(PYTHONPATH))
 # the Python that has PIL, by which tests read pictures a second time: Debian's, where another one comes first
 PIL_PYTHON ?= $(shell for one in python3 /usr/bin/python3; do $$one -c 'import PIL' > /dev/null 2>&1 && echo $$one && exit; done; echo python3)
+# the Python that has numpy, likewise
+NUMPY_PYTHON ?= $(shell for one in python3 /usr/bin/python3; do $$one -c 'import numpy' > /dev/null 2>&1 && echo $$one && exit; done; echo python3)
 SOURCES := crates.txt $(shell find crates -name out -prune -o -type f \( -name '*.rt' -o -name '*.antt' \) -print)
 
 # make looks by scripts/doctor.py for what its targets need before it proves or builds anything; a question (make -q) needs nothing
@@ -195,6 +197,7 @@ $(OUT)/libgbkeep.so: $(SOURCES) $(wildcard library/*) scripts/library.py $(if $(
 
 test-library: bin/gbkeep bin/libgbkeep.so
 	python3 -B library/test_library.py bin/gbkeep
+	$(NUMPY_PYTHON) -B python/gbkeep_tests/test_env.py
 
 web: dist/web/gbkeep.wasm
 
@@ -275,13 +278,14 @@ test:
 	python3 -B python/gbkeep_tests/test_slots.py $(PROGRAM)/out/gbkeep_program
 	python3 -B python/gbkeep_tests/test_shown_game.py $(PROGRAM)/out/gbkeep_program
 	python3 -B python/gbkeep_tests/test_window_parts.py
-	$(PIL_PYTHON) -B python/gbkeep_tests/test_package.py
+	$(NUMPY_PYTHON) -B python/gbkeep_tests/test_package.py
 	$(PIL_PYTHON) -B python/gbkeep_tests/test_pictures.py
 	CC="$(CC)" python3 -B packaging/test_installed.py
 	python3 -B packaging/test_completions.py
 	python3 -B web/test_module.py
 	if python3 -B scripts/doctor.py --try 'the library for C' cc ar; then RT=$(RT) CC="$(CC)" python3 -B scripts/library.py gate && \
-	CC="$(CC)" python3 -B library/test_library.py $(PROGRAM)/out/gbkeep_program; fi
+	CC="$(CC)" python3 -B library/test_library.py $(PROGRAM)/out/gbkeep_program && \
+	$(NUMPY_PYTHON) -B python/gbkeep_tests/test_env.py; fi
 	if python3 -B scripts/doctor.py --try 'the libretro core' cc ar libretro.h; then CC="$(CC)" LIBRETRO="$(LIBRETRO)" python3 -B scripts/libretro.py && \
 	python3 -B players/libretro/test_libretro.py $(PROGRAM)/out/gbkeep_program bin/gbkeep_libretro.so && \
 	if python3 -B scripts/doctor.py --try 'the libretro core, garbage' sanitizers; then \

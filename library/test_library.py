@@ -3,19 +3,26 @@
 usage: test_library.py GBKEEP [LIBRARY]     LIBRARY: a folder with all that `make library` leaves (bin of the clone)
 
 CC names the C compiler. Where it has the sanitizers, play.c is built with them."""
+import array
+import contextlib
+import itertools
 import os
 import random
 import shlex
 import shutil
+import signal
 import subprocess
 import sys
 import tempfile
+import threading
+import time
 import unittest
 from pathlib import Path
+from unittest import mock
 
 HERE = Path(__file__).resolve().parent
 TOP = HERE.parent
-from gbkeep import Machine, Picture, Refused, Session, save_files, sectors_needed
+from gbkeep import AnyGame, AnyMachine, DebugMachine, Game, Machine, NoState, Picture, Refused, Session, header_of, save_files, sectors_needed
 from scripts.doctor import tries
 from scripts.not_tried import note
 
@@ -174,7 +181,7 @@ class InPython(InFolder):
             machine.restore(state)
             self.assertEqual((machine.state(), machine.picture().shades), (state, shades))
             for damaged in (b'', state[:-1], state + b'\0', b'X' + state[1:], bytes(len(state))):
-                with self.assertRaises(Refused):
+                with self.assertRaises(NoState):
                     machine.restore(damaged)
                 self.assertEqual(machine.state(), state)
             machine.restore(start)
@@ -187,7 +194,7 @@ class InPython(InFolder):
             ram = CART.ram
             self.assertEqual(machine.state()[:len(start) - ram], start[:len(start) - ram])
             self.assertEqual(machine.state()[len(start) - ram:], state[len(start) - ram:] if ROM[0x147] in (3, 6, 9, 15, 16, 19, 27, 30) else start[len(start) - ram:])
-        with self.assertRaises(Refused):
+        with self.assertRaises(ValueError):
             machine.frames(0)
         for rom in (b'', bytes(100), bytes(32768 + 1), b'\xff' * 32768):
             with self.assertRaises(Refused):
@@ -200,14 +207,14 @@ class InPython(InFolder):
                 session.frames(buttons, count)
             machine.seconds(3)
             session.seconds(3)
-            self.assertEqual((session.state(), session.picture().shades, session.count()), (machine.state(), machine.picture().shades, 46))
+            self.assertEqual((session.state(), session.picture().shades, session.count), (machine.state(), machine.picture().shades, 46))
             session.frames(0, 3200 - 46)
             with self.assertRaises(Refused) as refused:
                 session.frames(0)
-            self.assertEqual((refused.exception.code, session.count()), (15, 3200))
+            self.assertEqual((refused.exception.code, session.count), (15, 3200))
             self.assertEqual(session.save(), 3200)
             session.frames(0)
-            self.assertEqual(session.count(), 3201)
+            self.assertEqual(session.count, 3201)
             # the power switch and a state are inputs, and what they lead to is saved
             state = machine.state()
             machine.restore(state)
@@ -216,18 +223,18 @@ class InPython(InFolder):
             session.frames(0x10, 7)
             machine.power()
             session.power()
-            self.assertEqual((session.state(), session.picture().shades, session.count()), (machine.state(), machine.picture().shades, 3210))
+            self.assertEqual((session.state(), session.picture().shades, session.count), (machine.state(), machine.picture().shades, 3210))
             for damaged in (b'', state[:-1], state + b'\0', b'X' + state[1:], bytes(len(state))):
                 with self.assertRaises(Refused) as refused:
                     session.restore(damaged)
-                self.assertEqual((refused.exception.code, session.state(), session.count()), (6, machine.state(), 3210))
+                self.assertEqual((refused.exception.code, session.state(), session.count), (6, machine.state(), 3210))
             self.assertEqual(session.save(), 3210)
             session.frames(0, 3199)
             session.restore(state)
             for refused_input in (session.power, lambda: session.restore(state), lambda: session.frames(0)):
                 with self.assertRaises(Refused) as refused:
                     refused_input()
-                self.assertEqual((refused.exception.code, session.state(), session.count()), (15, state, 6410))
+                self.assertEqual((refused.exception.code, session.state(), session.count), (15, state, 6410))
         with self.assertRaises(Refused):
             Session(ROM, sectors=3)
         with self.assertRaises(Refused):
@@ -260,7 +267,7 @@ class InPython(InFolder):
                                 disk[call.sector * SECTOR:(call.sector + 1) * SECTOR] = call.bytes
 
                     make_calls()
-                    self.assertEqual((bytes(disk), session.count()), (theirs.read_bytes(), 0))
+                    self.assertEqual((bytes(disk), session.count), (theirs.read_bytes(), 0))
                     session.frames(0x80, 4)
                     session.frames(0x01, 100)
                     session.seconds(100_000)
@@ -298,7 +305,7 @@ class InPython(InFolder):
         image, given, told = None, 0, 0
         for life in range(3):
             session = Session(ROM) if image is None else Session(ROM, image)
-            self.assertEqual(session.count(), given)
+            self.assertEqual(session.count, given)
             disk = bytearray(SECTOR * sectors_needed(ROM)) if image is None else bytearray(image)
             synced, behind, begun = bytes(disk), [], image is not None
             for save in range(12):
@@ -337,9 +344,259 @@ class InPython(InFolder):
                 self.assertEqual(save_files.looked_at(disk, cart)[0], told)
             # taken up again, it is the same machine
             with Session(ROM, bytes(disk)) as again:
-                self.assertEqual((again.state(), again.count()), (session.state(), told))
+                self.assertEqual((again.state(), again.count), (session.state(), told))
             session.close()
             image, given = bytes(disk), told
+
+
+class Index:
+    """A number that is none of Python's own, as numpy's are."""
+
+    def __init__(self, value):
+        self.value = value
+
+    def __index__(self):
+        return self.value
+
+
+# what each of the four is asked for, in this order, and answers in the same way
+CALLS = {
+    'frames': lambda one: [one.frames(0x80, Index(4)), one.frames(Index(0x11), 30), one.frame(True), one.frame(), one.frames(0, 0)],
+    'seconds': lambda one: one.seconds(Index(7)),
+    'memory': lambda one: [one.memory(0xc000, 16), one.memory(Index(0xc001)), one.memory(0xffff, 3)[1:], one.memory(0, Index(0x10000))],
+    'memory_into': lambda one: [filled(one.memory_into, bytearray(16), 0xc000), filled(one.memory_into, memoryview(bytearray(9))[2:4], 0xc001),
+                                filled(one.memory_into, array.array('H', [0] * 3), Index(0xc000))],
+    'picture': lambda one: [one.picture().shades, one.picture().png()],
+    'picture_into': lambda one: [filled(one.picture_into, bytearray(23040)), filled(one.picture_into, memoryview(bytearray(23040)).cast('B', (144, 160)))],
+    'state': lambda one: one.state(),
+    'keep': lambda one: [one.keep(3), one.keep(Index(999)), one.frames(0x10, 9), one.keep(3), one.frames(2, 9), one.state()],
+    'back': lambda one: [state for number in (999, Index(3), 3, 999) for state in (one.back(number), one.frame(2), one.state())],
+    'restore': lambda one: [(one.frames(1, 7), one.restore(bytearray(state)), one.frame(4), one.state()) for state in [one.state()] * 2],
+    'power': lambda one: [one.power(), one.frames(0, 3), one.state()],
+}
+# and what none of them takes
+MISTAKES = [(call, words, kind) for call, kind, all_words in (
+    ('frame', ValueError, [(-1,), (256,), (Index(1 << 40),)]), ('frame', TypeError, [(1.0,), ('1',), (None,), (b'1',)]),
+    ('frames', ValueError, [(-1, 1), (256, 1), (0, -1), (0, 1 << 32)]), ('frames', TypeError, [(0, 1.0), (0.0, 1), (0, None), ()]),
+    ('seconds', ValueError, [(-1,), (1 << 32,)]), ('seconds', TypeError, [(0.5,), ('7',), ()]),
+    ('keep', ValueError, [(-1,), (1000,)]), ('keep', TypeError, [(1.0,), (None,)]),
+    ('back', ValueError, [(-1,), (1000,), (4,)]), ('back', TypeError, [('4',), (3.0,)]),
+    ('memory', ValueError, [(-1,), (0x10000,), (0, 0), (0, -1), (0, 0x10001)]), ('memory', TypeError, [(0.0,), (0, 1.0), (None,)]),
+    ('memory_into', ValueError, [(-1, bytearray(1)), (0x10000, bytearray(1)), (0, bytearray()), (0, bytearray(0x10001)), (0, memoryview(bytearray(8))[::2])]),
+    ('memory_into', TypeError, [(0, bytes(8)), (0, 8), (0, 'x'), (0.0, bytearray(8))]),
+    ('picture_into', ValueError, [(bytearray(23039),), (bytearray(23041),), (bytearray(),), (memoryview(bytearray(46080))[::2],)]),
+    ('picture_into', TypeError, [(bytes(23040),), (23040,), (None,)]),
+    ('restore', NoState, [(b'',), (b'x' * 100,), (bytes(1 << 21),)]), ('restore', TypeError, [(7,), ('state',), (None,), ([1, 2],)])) for words in all_words]
+
+
+def filled(call, buffer, *words):
+    """What a call leaves in a buffer."""
+    call(*words, buffer)
+    return bytes(buffer)
+
+
+class OneProtocol(InFolder):
+    """`Machine`, `Session`, `DebugMachine` and `Game` have the same calls, answers and errors, of the name of a cartridge and of its bytes."""
+
+    def setUp(self):
+        super().setUp()
+        self.made = itertools.count()
+
+    def kinds(self):
+        """How each of them is made of a cartridge."""
+        return {'Machine': Machine, 'Session': Session, 'DebugMachine': lambda cart: DebugMachine(cart, program=PROGRAM),
+                'Game': lambda cart: Game(cart, self.folder / f'game-{next(self.made)}', PROGRAM)}
+
+    def test_the_same_calls_have_the_same_answers(self):
+        answers = {}
+        for name, make in self.kinds().items():
+            for cart in (DEMO, ROM):
+                with make(cart) as one:
+                    self.assertIsInstance(one, AnyMachine)
+                    self.assertEqual(isinstance(one, AnyGame), name in ('Session', 'Game'))
+                    answers[name, type(cart)] = {call: ask(one) for call, ask in CALLS.items()}
+            for cart in (str(DEMO), bytearray(ROM), memoryview(ROM + b'x')[:-1]):
+                with make(cart) as one:
+                    self.assertEqual(one.memory(0x0100, 80), ROM[0x0100:0x0150])
+        wanted = answers['Machine', bytes]
+        self.assertEqual(set(CALLS), set(wanted))
+        for who, got in answers.items():
+            self.assertEqual([call for call in CALLS if got[call] != wanted[call]], [], who)
+        # what is asked for leaves something else each time
+        self.assertEqual(len({str(got) for call, got in wanted.items()}), len(CALLS))
+
+    def test_the_same_mistakes_raise_the_same_errors_and_do_nothing(self):
+        for name, make in self.kinds().items():
+            with self.subTest(name), make(ROM) as one:
+                one.frames(0x80, 4)
+                one.keep(3)
+                before = one.state()
+                damaged = [('restore', (state,), NoState) for state in (b'X' + before[1:], before[:-1], before + b'x')]
+                for call, words, kind in [*MISTAKES, *damaged]:
+                    with self.assertRaises(kind, msg=f'{call}{words}'[:100]) as raised:
+                        getattr(one, call)(*words)
+                    # a refusal is no answer to a wrong number, and no state is both
+                    self.assertEqual(isinstance(raised.exception, Refused), kind is NoState, raised.exception)
+                self.assertEqual((one.state(), getattr(one, 'count', 4)), (before, 4))
+        for name, make in self.kinds().items():
+            for cart in (b'', bytes(100), bytes(32768 + 1), b'\xff' * 32768, self.folder / 'none.gb', self.folder):
+                with self.assertRaises(Refused, msg=name) as refused:
+                    make(cart)
+                self.assertTrue(refused.exception.line and refused.exception.means and refused.exception.advice, vars(refused.exception))
+                self.assertEqual(str(refused.exception), f'{refused.exception.line}: {refused.exception.means}; {refused.exception.advice}')
+            for cart in (None, 7, [1, 2]):
+                with self.assertRaises(TypeError, msg=name):
+                    make(cart)
+
+    def test_what_is_closed_is_refused(self):
+        for name, make in self.kinds().items():
+            one, kind = make(ROM), {'Session': 'session', 'Game': 'game'}.get(name, 'machine')
+            one.frame()
+            one.keep(3)
+            state, told = one.state(), one.save() if isinstance(one, AnyGame) else None
+            self.assertIs(one.closed, False)
+            one.close()
+            one.close()
+            self.assertIs(one.closed, True)
+            calls = [lambda: one.frame(), lambda: one.frames(0, 3), lambda: one.seconds(1), one.power, lambda: one.keep(3), lambda: one.back(3), one.state,
+                     lambda: one.restore(state), lambda: one.memory(0), lambda: one.memory_into(0, bytearray(1)), one.picture,
+                     lambda: one.picture_into(bytearray(23040)), one.__enter__]
+            calls += [getattr(one, more) for more in ('save', 'settle', 'state_length', 'battery', 'calls') if hasattr(one, more)]
+            for call in calls:
+                with self.assertRaises(ValueError) as raised:
+                    call()
+                self.assertEqual((str(raised.exception), type(raised.exception)), (f'the {kind} is closed', ValueError))
+            if told is not None:
+                self.assertEqual((one.count, one.saved), (told, told))
+            one.close()
+        # a program that was killed has refused, and is closed from then on
+        for make in (lambda: Game(ROM, self.folder / 'killed', PROGRAM), lambda: DebugMachine(ROM, program=PROGRAM)):
+            one = make()
+            one.process.kill()
+            with self.assertRaises(Refused):
+                one.frame()
+                one.state()
+            with self.assertRaisesRegex(ValueError, 'is closed'):
+                one.state()
+            one.close()
+
+    def test_a_refusal_within_a_block_is_the_one_that_is_told(self):
+        for make in (lambda: Game(ROM, self.folder / 'killed', PROGRAM), lambda: DebugMachine(ROM, program=PROGRAM)):
+            with self.assertRaises(Refused):
+                with make() as one:
+                    one.process.kill()
+                    one.state()
+
+    def test_a_cartridge_of_bytes_leaves_no_file_and_no_descriptor(self):
+        folder = self.folder / 'temporary'
+        folder.mkdir()
+        for is_in_memory in (True, False):
+            with mock.patch.dict(os.environ, TMPDIR=str(folder)), mock.patch.object(tempfile, 'tempdir', None), contextlib.ExitStack() as stack:
+                if not is_in_memory:
+                    stack.enter_context(mock.patch.object(os, 'memfd_create', side_effect=OSError))
+                before = sorted(os.listdir('/proc/self/fd'))
+                for cart in (ROM, bytes(100)):
+                    with contextlib.suppress(Refused), DebugMachine(cart, program=PROGRAM) as machine:
+                        machine.frame()
+                    with contextlib.suppress(Refused), Game(cart, self.folder / f'game-{next(self.made)}', PROGRAM) as game:
+                        # what has read the cartridge needs no file of it
+                        self.assertEqual((list(folder.iterdir()), game.memory(0x0100, 80)), ([], ROM[0x0100:0x0150]))
+                self.assertEqual(header_of(ROM, PROGRAM), header_of(DEMO, PROGRAM))
+                self.assertEqual((list(folder.iterdir()), sorted(os.listdir('/proc/self/fd'))), ([], before))
+        # with a recording, too, which the name of the cartridge goes on with
+        save, recording = self.folder / 'recorded', self.folder / 'recording'
+        for cart, count in ((ROM, 5), (DEMO, 10)):
+            with Game(cart, save, PROGRAM, recording) as game:
+                game.frames(0x80, 5)
+            self.assertEqual(game.saved, count)
+
+    def test_threads_play_at_once_and_one_machine_waits_for_its_calls(self):
+        with Machine(ROM) as machine, Machine(ROM) as alone:
+            times, ticks = [], []
+
+            def play():
+                times.append(time.monotonic())
+                machine._call('frames', 0, 40_000)
+                times.append(time.monotonic())
+            player = threading.Thread(target=play)
+            player.start()
+            while player.is_alive():
+                ticks.append(time.monotonic())
+            # a call that kept Python to itself would leave no time between its begin and its end
+            seen = [times[0], *(tick for tick in ticks if times[0] < tick < times[1]), times[1]]
+            self.assertLess(max(after - before for before, after in itertools.pairwise(seen)), (times[1] - times[0]) / 2)
+            # several threads that give one machine the same: no frame is lost, and nothing breaks
+            calls = (lambda: machine.frames(0, 7), lambda: machine._call('frames', 0, 7)) * 2
+            players = [threading.Thread(target=lambda call=call: [call() for _ in range(300)]) for call in calls]
+            for player in players:
+                player.start()
+            for player in players:
+                player.join()
+            alone.frames(0, 40_000 + 4 * 300 * 7)
+            self.assertEqual(machine.state(), alone.state())
+
+    def test_a_machine_that_is_closed_in_a_call_is_freed_behind_it(self):
+        for _ in range(20):
+            machine, session, ended = Machine(ROM), Session(ROM), []
+
+            def play(one):
+                try:
+                    while True:
+                        one.frames(0, 50)
+                        if one is session:
+                            one.save()
+                except ValueError as error:
+                    ended.append(str(error))
+            players = [threading.Thread(target=play, args=(one,)) for one in (machine, machine, session)]
+            for player in players:
+                player.start()
+            time.sleep(0.01)
+            machine.close()
+            session.close()
+            for player in players:
+                player.join(60)
+            self.assertEqual(sorted(ended), ['the machine is closed'] * 2 + ['the session is closed'])
+
+    def test_a_ctrl_c_ends_a_long_play(self):
+        with Machine(ROM) as machine:
+            threading.Timer(0.3, os.kill, (os.getpid(), signal.SIGINT)).start()
+            began = time.monotonic()
+            with self.assertRaises(KeyboardInterrupt):
+                machine.frames(0, 4_000_000)
+            self.assertLess(time.monotonic() - began, 10)
+            machine.frame()
+
+    def test_a_session_reads_memory_and_keeps_states_as_inputs(self):
+        with Session(ROM) as session, Machine(ROM) as machine:
+            for one in (session, machine):
+                one.frames(0x80, 4)
+                one.keep(0)
+                one.frames(1, 29)
+            # behind each kind of input
+            for given in (lambda one: one.frame(2), lambda one: one.seconds(3), lambda one: one.power(), lambda one: one.back(0),
+                          lambda one: one.frames(1, 30)):
+                for one in (session, machine):
+                    given(one)
+                self.assertEqual(session.memory(0xc000, 256), machine.memory(0xc000, 256))
+            self.assertEqual((session.count, session.saved), (67, 0))
+            self.assertEqual((session.save(), session.saved), (67, 67))
+            for one in (session, machine):
+                one.back(0)
+            self.assertEqual((session.memory(0xc000, 256), session.count, session.saved), (machine.memory(0xc000, 256), 68, 67))
+            session.frames(0, 3199)
+            for refused_input in (lambda: session.back(0), session.power, lambda: session.frame()):
+                with self.assertRaises(Refused) as refused:
+                    refused_input()
+                self.assertEqual((refused.exception.code, session.count), (15, 3267))
+            disk = bytearray(SECTOR * sectors_needed(DEMO))
+            session.save()
+            for call in session.calls():
+                if call.bytes is not None:
+                    disk[call.sector * SECTOR:(call.sector + 1) * SECTOR] = call.bytes
+        with Session(DEMO, disk) as again:
+            self.assertEqual((again.count, again.saved), (3267, 3267))
+            again.frames(0, 3)
+        self.assertEqual((again.count, again.saved), (3270, 3267))
 
 
 if __name__ == '__main__':

@@ -95,7 +95,7 @@ def files(built: Optional[object] = 'bin', lib: str = 'lib', prefix: str = '/usr
     found += [one(PROGRAM, f'share/zsh/{zsh}/_gbkeep', 'completions/_gbkeep')]
     for name, module in tools().items():
         found += tool(name, module)
-    found += [one(PYTHON, f'{modules}/gbkeep/{path.name}', path) for path in sorted((SOURCES / 'gbkeep').glob('*.py'))]
+    found += [one(PYTHON, f'{modules}/gbkeep/{path.name}', path) for path in sorted([*(SOURCES / 'gbkeep').glob('*.py'), SOURCES / 'gbkeep/py.typed'])]
     if modules == ALONE:
         found += [one(PYTHON, f'{ALONE}/gbkeep_launcher.py', 'packaging/launcher.py')]
     found += [File(WINDOW, 'share/applications/gbkeep.desktop', desktop_entry(prefix if modules == ALONE else '').encode()),

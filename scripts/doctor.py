@@ -6,7 +6,7 @@ usage: doctor.py                      tells what is there, what is missing, and 
        doctor.py --packages TARGET..  Debian's packages of what these targets need or leave out, as far as it is missing
 
 `make` looks by this before it proves or builds anything. What a file is built by is looked for only where that file is not up to date. RT, CC, LIBRETRO,
-PYTHON, WEB_PYTHON, ARCH and KERNEL are those of the Makefile."""
+PYTHON, WEB_PYTHON, NUMPY_PYTHON, PIL_PYTHON, ARCH and KERNEL are those of the Makefile."""
 from __future__ import annotations
 
 import functools
@@ -114,7 +114,7 @@ NEEDS = {
     'pygame': Need('python3-pygame', lambda: has_module('pygame', 'PYTHON'), 'PYTHON=NAME names the Python that has it'),
     'selenium': Need('python3-selenium', lambda: has_module('selenium', 'WEB_PYTHON'), 'WEB_PYTHON=NAME names the Python that has it'),
     'PIL': Need('python3-pil', lambda: has_module('PIL', 'PIL_PYTHON'), 'PIL_PYTHON=NAME names the Python that has it'),
-    'numpy': Need('python3-numpy', lambda: has_module('numpy', 'PIL_PYTHON'), 'PIL_PYTHON=NAME names the Python that has it'),
+    'numpy': Need('python3-numpy', lambda: has_module('numpy', 'NUMPY_PYTHON'), 'NUMPY_PYTHON=NAME names the Python that has it'),
     'Xvfb': command('xvfb', 'Xvfb'),
     'xdotool': command('xdotool', 'xdotool'),
     'retroarch': command('retroarch', 'retroarch'),

@@ -506,7 +506,7 @@ def carried(trip):
         save = trip.take(path, battery)
         trip.give_back(*trip.go_on(save, battery))
     except (Differs, Refused) as why:
-        return f'; DIFFERS: {why}'
+        return f'; DIFFERS: {why.line if isinstance(why, Refused) else why}'
     return ''
 
 

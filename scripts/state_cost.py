@@ -2,10 +2,11 @@
 
 usage: state_cost.py GBKEEP
 
-Of the demo, after some frames of play, with `Game` and with `DebugMachine`: `state` and `restore`; `keep`, and `back` with a frame. Each is the best of five
-rounds, since whatever else the computer does only takes from it. Then, of `Game`: a save behind a frame, and one behind a frame and a `back`, which writes a
-whole generation, medians of fifty each. Then what a moment of the window takes, a state and its picture: its time and its bytes. SAVE lies where this
-is started: a folder for temporary files may lie in memory, where a sync takes no time."""
+Of the demo, after some frames of play, with `Game` and with `DebugMachine`, and with `Machine` and `Session` where the library is there: `state` and `restore`;
+`keep`, and `back` with a frame; sixteen bytes of memory behind a frame. Each is the best of five rounds, since whatever else the computer does only takes from
+it. Then, of `Game`: a save behind a frame, and one behind a frame and a `back`, which writes a whole generation, medians of fifty each. Then what a moment of
+the window takes, a state and its picture: its time and its bytes. SAVE lies where this is started: a folder for temporary files may lie in memory, where a
+sync takes no time."""
 import os
 import statistics
 import sys
@@ -13,7 +14,7 @@ import tempfile
 import time
 from pathlib import Path
 
-from gbkeep import A, RIGHT, START, DebugMachine, Game
+from gbkeep import A, RIGHT, START, DebugMachine, Game, Machine, Refused, Session
 from gbkeep.going_back import Moment
 
 CART = Path(__file__).resolve().parent.parent / 'examples/demo/demo.gb'
@@ -28,8 +29,12 @@ def began(machine):
 
 
 def settled(machine):
-    """Waits until all that was given is done."""
+    """Waits until all that was given is done; a session has room for more then."""
     machine.memory(0xc000, 1)
+    if isinstance(machine, Session):
+        machine.save()
+        for _ in machine.calls():
+            pass
 
 
 def rate(machine, call):
@@ -49,9 +54,14 @@ def tell_rates(name, machine):
     def back(number):
         machine.back(number % 2)
         machine.frame(A)
+
+    def look(number):
+        machine.frame(A)
+        machine.memory(0xc000, 16)
     taken = rate(machine, lambda number: machine.restore(machine.state()))
     kept = rate(machine, lambda number: machine.keep(number % 2))
-    print(f'{name}: state and restore {taken:,.0f} a second; keep {kept:,.0f}; back and a frame {rate(machine, back):,.0f}')
+    print(f'{name}: state and restore {taken:,.0f} a second; keep {kept:,.0f}; back and a frame {rate(machine, back):,.0f}; '
+          f'a frame and memory {rate(machine, look):,.0f}')
 
 
 def time_of_saves(game, call):
@@ -79,6 +89,12 @@ def main():
     if len(sys.argv) != 2:
         sys.exit(__doc__)
     program = os.path.abspath(sys.argv[1])
+    for kind in (Machine, Session):
+        try:
+            with kind(CART) as machine:
+                tell_rates(kind.__name__, began(machine))
+        except Refused as refused:
+            print(f'{kind.__name__}: {refused.line}')
     with tempfile.TemporaryDirectory(prefix='states-', dir=os.path.realpath('.')) as folder:
         with DebugMachine(CART, program=program) as machine:
             tell_rates('DebugMachine', began(machine))

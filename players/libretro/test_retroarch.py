@@ -160,7 +160,7 @@ def plays(front, program, room):
 def saved(save):
     """The machine that a SAVE stands for, and the count of its inputs."""
     with Session(CART.read_bytes(), save.read_bytes()) as session:
-        return session.state(), session.count()
+        return session.state(), session.count
 
 
 def frames_from(first, last, is_off=False):

@@ -1,14 +1,17 @@
 """Plays Game Boy games from Python, by the program `gbkeep` or by its library.
 
 `Game` is a game in a save file, which `gbkeep stream` plays: what `save` has answered no power cut can lose. `DebugMachine` is a machine to try things out
-with, by `gbkeep debug`. `Machine` and `Session` are those of the library for C, in this process. A refusal is raised as `Refused`.
+with, by `gbkeep debug`. `Machine` and `Session` are those of the library for C, in this process. All of them have the calls of `AnyMachine`, and those with
+inputs that are saved the calls of `AnyGame`. A refusal is raised as `Refused`.
 
-The tools, such as `gbkeep-window`, are modules of this package: `python3 -m gbkeep.window`. `gbkeep.script` and `gbkeep.movie` read and write scripts and
-movies, `gbkeep.pictures` pictures, and `gbkeep.save_files` is a second reader of save files."""
-from .game import (A, B, DOWN, HEIGHT, LEFT, RIGHT, SELECT, SLOTS, START, UP, WIDTH, DebugMachine, Game, Header, MissingProgram, Picture, Refused, begin, begin_recording,
-                   find_program, header_of)
+The tools, such as `gbkeep-window`, are modules of this package: `python3 -m gbkeep.window`. `gbkeep.env` is an environment for learning, `gbkeep.script` and
+`gbkeep.movie` read and write scripts and movies, `gbkeep.pictures` pictures, and `gbkeep.save_files` is a second reader of save files."""
+from .game import (A, B, DOWN, HEIGHT, LEFT, RIGHT, SELECT, START, UP, WIDTH, DebugMachine, Game, Header, Picture, begin, begin_recording, find_program,
+                   header_of)
 from .library import Call, Machine, Session, Shades, find_library, sectors_needed
+from .machines import SLOTS, AnyGame, AnyMachine, MissingProgram, NoState, Refused
 
 __version__ = '0.1.0'
-__all__ = ['A', 'B', 'DOWN', 'HEIGHT', 'LEFT', 'RIGHT', 'SELECT', 'SLOTS', 'START', 'UP', 'WIDTH', 'Call', 'DebugMachine', 'Game', 'Header', 'Machine',
-           'MissingProgram', 'Picture', 'Refused', 'Session', 'Shades', 'begin', 'begin_recording', 'find_library', 'find_program', 'header_of', 'sectors_needed']
+__all__ = ['A', 'B', 'DOWN', 'HEIGHT', 'LEFT', 'RIGHT', 'SELECT', 'SLOTS', 'START', 'UP', 'WIDTH', 'AnyGame', 'AnyMachine', 'Call', 'DebugMachine', 'Game',
+           'Header', 'Machine', 'MissingProgram', 'NoState', 'Picture', 'Refused', 'Session', 'Shades', 'begin', 'begin_recording', 'find_library',
+           'find_program', 'header_of', 'sectors_needed']

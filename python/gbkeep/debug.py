@@ -20,8 +20,9 @@ from pathlib import Path
 from typing import NoReturn
 
 from . import memory_pictures
-from .game import MOST_FRAMES, MOST_SECONDS, MOST_STATE, PICTURE_BYTES, SLOTS, STATE_HEAD, Picture, Refused, find_program, line_of, started
+from .game import MOST_FRAMES, MOST_SECONDS, MOST_STATE, PICTURE_BYTES, STATE_HEAD, Picture, Refused, find_program, line_of, started
 from .input_files import PathLike, WrongInput, number, printable, read_bytes
+from .machines import SLOTS
 from .memory_pictures import MAP_BYTES, MAPS, OAM, OAM_BYTES, REGISTER_BYTES, REGISTERS, VRAM, VRAM_BYTES, Canvas
 from .new_files import Unsafe, new_file
 from .pictures import PNG_HEAD, png_of

@@ -11,7 +11,8 @@
 What is given goes to the program at once and in order. `save`, `picture`, `state`, `restore` and `memory` wait for their answer; nothing else does. When
 the block ends, also by an exception, what is unsaved is saved. A refusal of the program is raised as `Refused`.
 
-`DebugMachine` is a machine that is tried out, by `gbkeep debug`, with the same calls: nothing of it is saved.
+`DebugMachine` is a machine that is tried out, by `gbkeep debug`, with the same calls: nothing of it is saved. `gbkeep.machines` has what these calls have in
+common with those of the library.
 
 examples/collect.py is a whole example, and examples/search.py one of a machine."""
 import collections
@@ -21,14 +22,15 @@ import select
 import shutil
 import signal
 import subprocess
+import tempfile
 from collections.abc import Iterator
 from dataclasses import dataclass
 from pathlib import Path
 from types import TracebackType
-from typing import TYPE_CHECKING, NoReturn, Optional, Union
+from typing import TYPE_CHECKING, BinaryIO, NoReturn, Optional, SupportsIndex
 
-from .faults import explained
-from .input_files import MOST_LINE, PathLike, printable
+from .input_files import MOST_CART, PathLike, printable
+from .machines import NO_STATE, Buffer, Cart, MissingProgram, NoState, Played, Refused, bytes_of
 from .pictures import HEIGHT, SCALE, WIDTH, png_of
 
 if TYPE_CHECKING:
@@ -44,43 +46,9 @@ PIECE = 4096
 MOST_UNREAD = 1 << 20
 # a state of a cartridge with the most RAM is shorter
 MOST_STATE, STATE_HEAD = 1 << 20, b'GBSNAP01'
-# the numbers under which a machine keeps its states are below it
-SLOTS = 1000
-NO_STATE = 'no state of this cartridge'
 MOST_COUNT = (1 << 64) - 1
 # 2.3 MiB: ten hours of play with ten changes of buttons a second
 RECORDING_SECTORS = 4_800
-
-
-# what has bytes: an array of numpy has them, too
-Buffer = Union[bytes, bytearray, memoryview]
-
-
-def bytes_of(data: Buffer) -> bytes:
-    """The bytes of what has some. Raises TypeError where it has none, as a number."""
-    return data if isinstance(data, bytes) else memoryview(data).tobytes()
-
-
-class Refused(Exception):
-    """The program or the library refused. `line` is its line; `means` and `advice` say what docs/COMMANDS.md says of it. `code` is the one in gbkeep.h."""
-    code: Optional[int] = None
-
-    def __init__(self, line: str, command: str, means: str = '', advice: str = ''):
-        line = printable(line, MOST_LINE)
-        super().__init__(line)
-        self.line = line
-        self.means, self.advice = (means, advice) if means or advice else explained(line, command) or ('', '')
-
-    def told(self) -> str:
-        """The line, what it means, and what to do about it, in one line."""
-        return '; '.join(part for part in (f'{self.line}: {self.means}' if self.means else self.line, self.advice) if part)
-
-
-class MissingProgram(Refused):
-    """There is no program that can be run."""
-
-    def __init__(self, program: PathLike, why: str):
-        super().__init__(f'{printable(program)} can\'t be run', '', why, '`make build` makes one, and the variable GBKEEP names another one')
 
 
 @dataclass(frozen=True)
@@ -147,9 +115,10 @@ def started(words: list[str], **how: object) -> subprocess.Popen:
         return subprocess.Popen(words, **how)
 
 
-def run(program: str, command: str, *words: str) -> str:
+def run(program: str, command: str, *words: str, **how: object) -> str:
     """Runs a command to its end, and answers what it printed."""
-    process = started([program, command, '--', *words], stdin=subprocess.DEVNULL, stdout=subprocess.PIPE, stderr=subprocess.PIPE, text=True, errors='replace')
+    process = started([program, command, '--', *words], stdin=subprocess.DEVNULL, stdout=subprocess.PIPE, stderr=subprocess.PIPE, text=True, errors='replace',
+                      **how)
     with ended(process):
         out, err = process.communicate()
     if process.returncode != 0:
@@ -179,13 +148,47 @@ def line_of(err: str, status: int) -> str:
     return lines[0] if lines else f'the program ended with status {status}'
 
 
-def header_of(cart: PathLike, program: Optional[PathLike] = None) -> Header:
+@contextlib.contextmanager
+def named(cart: Cart) -> Iterator[tuple[str, tuple[int, ...]]]:
+    """A name of a cartridge for a program, and the descriptors that the program needs for it. Bytes have one until the block ends: of memory that has no other
+    name and that is gone with the processes which have it open, or, where the system has none, of a file that nobody else can read."""
+    if isinstance(cart, (str, os.PathLike)):
+        yield os.fsdecode(cart), ()
+        return
+    # what is longer is refused as this is
+    rom = memoryview(bytes_of(cart))[:MOST_CART + 1]
+    with in_memory() or tempfile.NamedTemporaryFile(prefix='gbkeep-', suffix='.gb', buffering=0) as file:
+        while rom:
+            rom = rom[file.write(rom):]
+        yield (file.name, ()) if isinstance(file.name, str) else (f'/proc/self/fd/{file.name}', (file.name,))
+
+
+def in_memory() -> Optional[BinaryIO]:
+    """A file in memory, which a program that is given its descriptor can open by its name; None where the system has none."""
+    try:
+        file = os.fdopen(os.memfd_create('gbkeep'), 'r+b', 0)
+    except (AttributeError, OSError):
+        return None
+    if os.path.exists(f'/proc/self/fd/{file.fileno()}'):
+        return file
+    file.close()
+    return None
+
+
+def shown_name(cart: Cart) -> str:
+    """What a refusal calls a cartridge."""
+    return printable(cart) if isinstance(cart, (str, os.PathLike)) else 'the cartridge'
+
+
+def header_of(cart: Cart, program: Optional[PathLike] = None) -> Header:
     """What the header of a cartridge says."""
-    fields = dict(line.split(' ', 1) for line in run(str(program or find_program()), 'info', str(cart)).splitlines() if ' ' in line)
+    with named(cart) as (name, descriptors):
+        said = run(str(program or find_program()), 'info', name, pass_fds=descriptors)
+    fields = dict(line.split(' ', 1) for line in said.splitlines() if ' ' in line)
     try:
         return Header(fields['title'][1:-1].strip(), int(fields['type'].split()[0], 16), int(fields['sectors']))
     except (KeyError, IndexError, ValueError):
-        raise Refused(f'{printable(cart)} has no header that a game can be begun with', 'info') from None
+        raise Refused(f'{shown_name(cart)} has no header that a game can be begun with', 'info') from None
 
 
 @contextlib.contextmanager
@@ -199,19 +202,19 @@ def free_name(path: PathLike) -> Iterator[None]:
         raise
 
 
-def begin(cart: PathLike, save: PathLike, program: Optional[PathLike] = None) -> None:
+def begin(cart: Cart, save: PathLike, program: Optional[PathLike] = None) -> None:
     """Begins a game in a new file, of as many sectors as it needs."""
-    with free_name(save):
-        run(str(program or find_program()), 'new', str(cart), str(save))
+    with free_name(save), named(cart) as (name, descriptors):
+        run(str(program or find_program()), 'new', name, str(save), pass_fds=descriptors)
 
 
-def begin_recording(cart: PathLike, recording: PathLike, sectors: int = RECORDING_SECTORS, program: Optional[PathLike] = None) -> None:
+def begin_recording(cart: Cart, recording: PathLike, sectors: int = RECORDING_SECTORS, program: Optional[PathLike] = None) -> None:
     """Makes an empty recording in a new file."""
-    with free_name(recording):
-        run(str(program or find_program()), 'new-recording', str(cart), str(recording), str(sectors))
+    with free_name(recording), named(cart) as (name, descriptors):
+        run(str(program or find_program()), 'new-recording', name, str(recording), str(sectors), pass_fds=descriptors)
 
 
-class Lines:
+class Lines(Played):
     """A program that is given lines, and plays frames by them. Its machine's states can be taken, given back and kept under numbers."""
     command: str
     process: subprocess.Popen
@@ -219,7 +222,6 @@ class Lines:
     output: int
     # what came and is not taken yet; the answers that are known and did not come yet are in `known`
     unread: bytearray
-    kept: set[int]
 
     def _start(self, words: list[str], **how: object) -> None:
         self.command = words[1]
@@ -227,60 +229,41 @@ class Lines:
         self.input, self.output = self.process.stdin.fileno(), self.process.stdout.fileno()
         self.unread, self.kept = bytearray(), set()
 
-    def frame(self, buttons: int = 0) -> None:
-        """One frame with these buttons, a sum of RIGHT, LEFT, UP, DOWN, A, B, SELECT and START."""
-        self.frames(buttons, 1)
+    @property
+    def closed(self) -> bool:
+        """Whether `close` was called, or the program has ended."""
+        return self.process.stdin.closed
 
-    def frames(self, buttons: int, count: int) -> None:
-        """So many frames with these buttons."""
-        if not 0 <= buttons <= 255 or count < 0:
-            raise ValueError(f'no frames: {buttons}, {count}')
+    def _frames(self, buttons: int, count: int) -> None:
         while count > 0:
             times = min(count, MOST_FRAMES)
             self._play(b'frames %02x %d\n' % (buttons, times), times)
             count -= times
 
-    def seconds(self, count: int) -> None:
-        """So many seconds pass on the cartridge's clock: one input of a game."""
-        if not 0 <= count <= MOST_SECONDS:
-            raise ValueError(f'no seconds: {count}')
+    def _seconds(self, count: int) -> None:
         self._play(b'seconds %d\n' % count, 1)
 
-    def power(self) -> None:
-        """The power switch, off and on: one input of a game. With a battery the cartridge's RAM stays, and its clock goes on."""
+    def _power(self) -> None:
         self._play(b'power\n', 1)
 
-    def keep(self, number: int) -> None:
-        """Keeps the machine under a number, 0 to 999, for `back`: in this process, until it ends, and in place of the one that was."""
-        if not 0 <= number < SLOTS:
-            raise ValueError(f'no number of a state: {number}')
+    def _keep(self, number: int) -> None:
         self._ask(b'keep %d\n' % number, b'kept %d\n' % number)
-        self.kept.add(number)
 
-    def back(self, number: int) -> None:
-        """From now on the machine that was kept last under a number: one input of a game."""
-        if number not in self.kept:
-            raise ValueError(f'no state is kept under {number}')
+    def _back(self, number: int) -> None:
         self._ask(b'back %d\n' % number, b'back %d\n' % number)
 
-    def state(self) -> bytes:
-        """The machine's snapshot, as bytes."""
+    def _state(self) -> bytes:
         self._ask(b'state\n')
         return self._counted(b'state')
 
-    def restore(self, state: Buffer) -> None:
-        """From now on the machine of this state: one input of a game. One that is no state of the cartridge is refused with ValueError, with nothing done."""
-        state = bytes_of(state)
+    def _restore(self, state: bytes) -> None:
         if not 1 <= len(state) <= MOST_STATE:
-            raise ValueError(NO_STATE)
+            raise NoState
         self._ask(b'restore %d\n' % len(state) + state)
         if self._line() != b'restored':
-            raise ValueError(NO_STATE)
+            raise NoState
 
-    def memory(self, address: int, count: int) -> bytes:
-        """So many bytes as the program sees them, but that no mode closes VRAM and OAM; after FFFF comes 0000."""
-        if not 0 <= address <= 0xffff or not 1 <= count <= 0x10000:
-            raise ValueError(f'no memory: {address}, {count}')
+    def _memory(self, address: int, count: int) -> bytes:
         self._ask(b'memory %04X %d\n' % (address, count))
         rows = [self._line()[5:] for _ in range((count + 15) // 16)]
         try:
@@ -291,8 +274,7 @@ class Lines:
             self._answers_wrongly()
         return data
 
-    def picture(self) -> Picture:
-        """The picture of the machine as it is now."""
+    def _picture(self) -> Picture:
         self._ask(b'picture\n')
         # a line is taken behind what comes before an answer
         head = self._line() + b'\n'
@@ -365,9 +347,15 @@ class Lines:
         return int(count)
 
     def _answers_wrongly(self) -> NoReturn:
-        self.process.kill()
-        self.process.wait()
+        self._stop()
         raise Refused('the program answers what no gbkeep answers', self.command)
+
+    def _stop(self) -> None:
+        """Ends the program, whatever it does."""
+        self.process.kill()
+        for pipe in (self.process.stdin, self.process.stdout, self.process.stderr):
+            pipe.close()
+        self.process.wait()
 
     def _end(self, of_itself: bool = True) -> None:
         """Waits for the program's end. A program that ends of itself has refused."""
@@ -382,17 +370,19 @@ class Lines:
 
 
 class Game(Lines):
-    """The game in SAVE, which is begun where there is none. `count` is how many inputs it has been given, `saved` how many of them are saved.
+    """The game in SAVE, which is begun where there is none. `count` is how many inputs it has been given, `saved` how many of them are saved. The cartridge is
+    the name of its file, or what is in it.
 
     `state` is a copy of the machine, which another `Game` or `DebugMachine` of the same cartridge takes; it is no SAVE. `keep` is for as long as this `Game` is
     open. With a RECORDING every input is recorded there before it is saved. It is made where neither it nor SAVE is there; a SAVE without its
     recording is refused, and `power`, `restore`, `keep` and `back` are, too: a recording has frames and seconds."""
+    _kind = 'game'
     count: int
     saved: int
     resumed: int
     piece = PIECE
 
-    def __init__(self, cart: PathLike, save: PathLike, program: Optional[PathLike] = None, recording: Optional[PathLike] = None):
+    def __init__(self, cart: Cart, save: PathLike, program: Optional[PathLike] = None, recording: Optional[PathLike] = None):
         program = str(program or find_program())
         if recording and os.path.lexists(save) and not os.path.lexists(recording):
             raise Refused(f'{printable(recording)} is not there', 'record', 'the game in SAVE has no recording of this name',
@@ -401,14 +391,15 @@ class Game(Lines):
             if recording and not os.path.lexists(recording):
                 begin_recording(cart, recording, program=program)
             begin(cart, save, program)
-        words = ['record', '--', str(cart), str(save), str(recording)] if recording else ['stream', '--', str(cart), str(save)]
-        # a Ctrl-C or the end of a login is for the caller: the program goes on, and saves what is unsaved when it is closed
-        self._start([program, *words], preexec_fn=ignore_signals)
         # the answers that are known, and the length of this cartridge's states
         self.known, self.length = collections.deque(), None
-        # nobody closes a game that is not yet there
-        with ended(self.process):
-            self.resumed = self._number(super()._line(), b'resumed', MOST_COUNT)
+        with named(cart) as (name, descriptors):
+            words = ['record', '--', name, str(save), str(recording)] if recording else ['stream', '--', name, str(save)]
+            # a Ctrl-C or the end of a login is for the caller: the program goes on, and saves what is unsaved when it is closed
+            self._start([program, *words], preexec_fn=ignore_signals, pass_fds=descriptors)
+            # nobody closes a game that is not yet there
+            with ended(self.process):
+                self.resumed = self._number(super()._line(), b'resumed', MOST_COUNT)
         self.count = self.saved = self.resumed
 
     def _play(self, line: bytes, inputs: int) -> None:
@@ -420,33 +411,40 @@ class Game(Lines):
             self.known.append(answer)
         self._give(line)
 
-    def power(self) -> None:
-        self._changes()
-        super().power()
-
-    def keep(self, number: int) -> None:
-        self._changes()
-        super().keep(number)
-
-    def back(self, number: int) -> None:
+    def back(self, number: SupportsIndex) -> None:
+        """From now on the machine that was kept last under a number: one input. A recorded game has kept none, and refuses it as such."""
+        self._has_to_be_open()
         self._changes()
         super().back(number)
-        self.count += 1
 
     def restore(self, state: Buffer) -> None:
-        """From now on the machine of this state: one input. Bytes of another length or kind are refused with ValueError, with nothing done; others that are no
-        state of this cartridge end the game, and what was given before is saved."""
+        """From now on the machine of this state: one input. Bytes of another length or kind are refused with `NoState`, with nothing done; others that are no
+        state of this cartridge are refused so, too, and end the game, and what was given before is saved."""
+        super().restore(state)
+
+    def _power(self) -> None:
         self._changes()
-        state = bytes_of(state)
+        super()._power()
+
+    def _keep(self, number: int) -> None:
+        self._changes()
+        super()._keep(number)
+
+    def _back(self, number: int) -> None:
+        super()._back(number)
+        self.count += 1
+
+    def _restore(self, state: bytes) -> None:
+        self._changes()
         if self.length is None:
-            self.length = len(self.state())
+            self.length = len(self._state())
         if len(state) != self.length or not state.startswith(STATE_HEAD):
-            raise ValueError(NO_STATE)
+            raise NoState
         try:
-            super().restore(state)
+            super()._restore(state)
         except Refused as refused:
             if refused.line == 'gbkeep: damaged snapshot':
-                refused.means, refused.advice = NO_STATE, 'open the game again: what was given before is saved'
+                raise NoState(refused.line, NO_STATE, advice='open the game again: what was given before is saved') from None
             raise
         self.count += 1
 
@@ -458,6 +456,7 @@ class Game(Lines):
 
     def save(self) -> int:
         """Saves what is unsaved, and answers the count of inputs: no power cut can lose them from then on."""
+        self._has_to_be_open()
         self._give(b'save\n')
         self._sort()
         while self.saved < self.count:
@@ -466,15 +465,12 @@ class Game(Lines):
 
     def close(self) -> None:
         """Saves what is unsaved and ends the program; the count of inputs that are saved is in `saved`."""
-        if self.process.stdin.closed:
+        if self.closed:
             return
         self.process.stdin.close()
         while self._read():
             self._sort()
         self._end(of_itself=False)
-
-    def __enter__(self) -> 'Game':
-        return self
 
     def __exit__(self, kind: Optional[type], error: Optional[BaseException], trace: Optional[TracebackType]) -> None:
         try:
@@ -518,7 +514,8 @@ class Game(Lines):
 
 
 class DebugMachine(Lines):
-    """A machine to try things out with, from power-on or, with a SAVE, from its game: nothing that is done here is saved.
+    """A machine to try things out with, from power-on or, with a SAVE, from its game: nothing that is done here is saved. The cartridge is the name of its
+    file, or what is in it.
 
     What is given goes to the program in order, many lines at once, and what it answers is compared; so a refusal may be raised by a later call. `state`,
     `restore`, `memory`, `picture` and `settle` wait until all is done. `keep` and `back` are the fastest way to try much from one place. A state is bytes: it
@@ -527,19 +524,24 @@ class DebugMachine(Lines):
     # a state goes in a few pieces
     piece = 1 << 20
 
-    def __init__(self, cart: PathLike, save: Optional[PathLike] = None, program: Optional[PathLike] = None):
-        words = ['debug', '--', str(cart)] + ([str(save)] if save else [])
-        self._start([str(program or find_program()), *words])
-        # a write takes what there is room for, so that no write waits for a program that waits to be read
-        os.set_blocking(self.input, False)
+    def __init__(self, cart: Cart, save: Optional[PathLike] = None, program: Optional[PathLike] = None):
         # the lines that are not given yet, and the answers that are known
         self.lines, self.known = bytearray(), bytearray()
-        if save:
+        with named(cart) as (name, descriptors):
+            words = ['debug', '--', name] + ([str(save)] if save else [])
+            self._start([str(program or find_program()), *words], pass_fds=descriptors)
+            # a write takes what there is room for, so that no write waits for a program that waits to be read
+            os.set_blocking(self.input, False)
             with ended(self.process):
-                self.resumed = self._number(self._line(), b'resumed', MOST_COUNT)
+                if save:
+                    self.resumed = self._number(self._line(), b'resumed', MOST_COUNT)
+                else:
+                    # what it answers says that it has taken the cartridge
+                    self._memory(0, 1)
 
     def settle(self) -> None:
         """Waits until all that was given is done."""
+        self._has_to_be_open()
         self._give(bytes(self.lines))
         self.lines.clear()
         while self.known:
@@ -547,21 +549,17 @@ class DebugMachine(Lines):
 
     def close(self) -> None:
         """Ends the program."""
-        if not self.process.stdin.closed:
+        if not self.closed:
             with ended(self.process):
                 self.settle()
             self.process.stdin.close()
             self._end(of_itself=False)
 
-    def __enter__(self) -> 'DebugMachine':
-        return self
-
     def __exit__(self, kind: Optional[type], error: Optional[BaseException], trace: Optional[TracebackType]) -> None:
         if kind is None:
             self.close()
         else:
-            self.process.kill()
-            self.process.communicate()
+            self._stop()
 
     def _play(self, line: bytes, inputs: int) -> None:
         self._ask(line, b'done\n')

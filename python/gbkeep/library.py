@@ -2,7 +2,7 @@
 
     from gbkeep import START, Machine
 
-    with Machine(open('examples/demo/demo.gb', 'rb').read()) as machine:
+    with Machine('examples/demo/demo.gb') as machine:
         machine.frames(START, 4)
         machine.frames(0, 60)
         state = machine.state()
@@ -12,19 +12,34 @@ A `Session` keeps its inputs on a disk of yours: `calls` hands out the writes an
 which is then a save file of the program `gbkeep`.
 
 The library is what the variable GBKEEP_LIBRARY names; else bin/libgbkeep.so of the clone, or the one that is installed. A refusal is raised as `Refused`.
-Bytes are anything with a buffer, such as `bytes`, `memoryview` or an array of numpy."""
+Bytes are anything with a buffer, such as `bytes`, `memoryview` or an array of numpy.
+
+While the library plays, other threads of Python run: machines play at once, each in a thread of its own. Calls of one machine wait for each other."""
 import ctypes
 import os
-from collections.abc import Iterator
+import threading
+from collections.abc import Callable, Iterator
 from types import TracebackType
-from typing import BinaryIO, NamedTuple, Optional
+from typing import BinaryIO, NamedTuple, Optional, SupportsIndex
 
-from .game import HEIGHT, WIDTH, Buffer, Picture, Refused, bytes_of, prefix
+from .faults import FAULTS
+from .game import Picture, prefix
 from .input_files import SECTOR
+from .machines import MOST_GIVEN, PICTURE_LENGTH, Buffer, Cart, NoState, Played, Refused, bytes_of, number, rom_of
 
-PICTURE_LENGTH = WIDTH * HEIGHT
-SAVE_FIRST = 15
+SAVE_FIRST, DAMAGED_SNAPSHOT = 15, 6
 MOST_UNSAVED = 3_200
+# Python sees a Ctrl-C when a call of C has ended: of so many frames within some 50 ms
+FRAMES_AT_ONCE = 1_000
+# what to do about a refusal, where it is another thing than for a program that has files
+ADVICE = {
+    'device failed': '',
+    'no session': 'begin one: `Session` without an image',
+    'too small': '`sectors_needed` says how many it needs',
+    'damaged snapshot': 'take a copy of the image',
+    'save first': '`save`, and make the calls that `calls` hands out',
+    'no battery': 'begin it without a battery file',
+}
 
 
 class Call(NamedTuple):
@@ -49,6 +64,12 @@ def find_library() -> str:
     # what is installed in another folder than lib has a link beside the package
     beside = [prefix() / name for name in ('bin/libgbkeep.so', 'share/gbkeep/libgbkeep.so.0', 'lib/libgbkeep.so.0')]
     return os.environ.get('GBKEEP_LIBRARY') or next((str(one) for one in beside if one.exists()), 'libgbkeep.so.0')
+
+
+def advice_of(line: str) -> str:
+    """What to do about a line of the library, which is one of the table without its numbers."""
+    cut = ((fault.partition(',')[0].removesuffix(' N').removesuffix(' XX'), advice) for fault, _, _, advice in FAULTS)
+    return ADVICE[line] if line in ADVICE else next((advice for fault, advice in cut if fault == line), '')
 
 
 _POINTER, _LENGTH, _WORD = ctypes.c_void_p, ctypes.c_size_t, ctypes.c_uint32
@@ -82,6 +103,8 @@ _CALLS = {
     'session_battery': (_WORD, _POINTER, _POINTER, _LENGTH),
     'session_count': (ctypes.c_uint64, _POINTER),
 }
+# the calls of each kind, by their names here
+_NAMES = {kind: [name.partition('_')[2] for name in _CALLS if name.startswith(f'{kind}_')] for kind in ('machine', 'session')}
 _loaded: dict[str, ctypes.CDLL] = {}
 
 
@@ -101,162 +124,224 @@ def _library() -> ctypes.CDLL:
     return _loaded[name]
 
 
-def _for_c(data: bytes) -> ctypes.Array:
-    """A copy of bytes that C may read."""
-    return (ctypes.c_char * max(len(data), 1)).from_buffer_copy(data or b'\0')
+class _Pointer:
+    """A pointer of C's, which is freed when nobody has it any more: a call that is under way has it, whoever closes the machine meanwhile."""
+
+    def __init__(self, at: int, free: Callable):
+        self.at, self._free = at, free
+
+    def __del__(self) -> None:
+        self._free(self.at)
 
 
-def _number(what: str, number: int, bits: int) -> int:
-    if not isinstance(number, int) or not 0 <= number < 1 << bits:
-        raise Refused(f'{what} is no number of {bits} bits', '')
-    return number
-
-
-class _Held:
+class _Held(Played):
     """What C holds for us, until `close`."""
-    _kind = ''
 
     def __init__(self) -> None:
-        self._lib = _library()
-        self._at: Optional[int] = None
+        self._lib, self._lock = _library(), threading.RLock()
+        self._functions = {name: getattr(self._lib, f'gbkeep_{self._kind}_{name}') for name in _NAMES[self._kind]}
+        self._pointer: Optional[_Pointer] = None
+        self.kept: set[int] = set()
+        self._states: dict[int, ctypes.Array] = {}
 
     def _call(self, name: str, *arguments: object) -> object:
-        if self._at is None:
-            raise Refused(f'the {self._kind} is closed', '')
-        return getattr(self._lib, f'gbkeep_{self._kind}_{name}')(self._at, *arguments)
+        with self._lock:
+            pointer = self._pointer
+            if pointer is None:
+                raise ValueError(f'the {self._kind} is closed')
+            return self._functions[name](pointer.at, *arguments)
 
     def _done(self, code: int) -> None:
         if code != 0:
-            line, _, means = self._lib.gbkeep_fault_text(code).decode('ascii', 'replace').partition(': ')
-            refused = Refused(line, '', means)
-            refused.code = code
-            raise refused
+            line, means = self._text(code)
+            raise Refused(line, '', means, advice_of(line), code)
+
+    def _text(self, code: int) -> tuple[str, str]:
+        """The line of a code, and what it means."""
+        line, _, means = self._lib.gbkeep_fault_text(code).decode('ascii', 'replace').partition(': ')
+        return line, means
 
     def _make(self, name: str, *arguments: object) -> None:
         at = ctypes.c_void_p()
-        self._done(getattr(self._lib, f'gbkeep_{self._kind}_{name}')(*arguments, ctypes.byref(at)))
-        self._at = at.value
+        self._done(self._functions[name](*arguments, ctypes.byref(at)))
+        self._pointer = _Pointer(at.value, self._functions['free'])
+
+    @property
+    def closed(self) -> bool:
+        """Whether `close` was called."""
+        return self._pointer is None
 
     def close(self) -> None:
         """Frees it. What a session has unsaved is lost."""
-        if self._at is not None:
-            self._call('free')
-            self._at = None
+        self._pointer = None
+        self._states.clear()
 
     def __exit__(self, kind: Optional[type], error: Optional[BaseException], trace: Optional[TracebackType]) -> None:
         self.close()
-
-    def __del__(self) -> None:
-        if getattr(self, '_at', None) is not None:
-            self.close()
-
-    def picture(self) -> Shades:
-        """The picture after what was given."""
-        shades = ctypes.create_string_buffer(PICTURE_LENGTH)
-        self._done(self._call('picture', shades, PICTURE_LENGTH))
-        return Shades(shades.raw)
 
     def state_length(self) -> int:
         """How many bytes a state has."""
         return self._call('state_length')
 
-    def state(self) -> bytes:
-        """All of the machine but its ROM."""
-        bytes_ = ctypes.create_string_buffer(self.state_length())
-        self._done(self._call('state', bytes_, len(bytes_)))
-        return bytes_.raw
+    def _picture(self) -> 'Shades':
+        shades = ctypes.create_string_buffer(PICTURE_LENGTH)
+        self._done(self._call('picture', shades, PICTURE_LENGTH))
+        return Shades(shades.raw)
+
+    def _picture_into(self, room: memoryview) -> None:
+        self._done(self._call('picture', _for_c(room), PICTURE_LENGTH))
+
+    def _state(self) -> bytes:
+        return self._copy(None).raw
+
+    def _restore(self, state: bytes) -> None:
+        self._take(state)
+
+    def _keep(self, number: int) -> None:
+        self._states[number] = self._copy(self._states.get(number))
+
+    def _back(self, number: int) -> None:
+        # there is none any more where another thread closes it meanwhile, and then `_call` says so
+        self._take(self._states.get(number, b''))
+
+    def _copy(self, into: Optional[ctypes.Array]) -> ctypes.Array:
+        """The machine as it is, in place of another one: its state, since the library has no call that copies a machine."""
+        into = into or ctypes.create_string_buffer(self.state_length())
+        self._done(self._call('state', into, len(into)))
+        return into
+
+    def _take(self, state: object) -> None:
+        """From now on the machine of `_copy`, or of a state."""
+        code = self._call('restore', state, len(state))
+        if code == DAMAGED_SNAPSHOT:
+            raise NoState(*self._text(code), code=code)
+        self._done(code)
+
+
+def _for_c(room: memoryview) -> object:
+    """Where C writes into a buffer of Python's, which stays where it is meanwhile."""
+    return ctypes.byref(ctypes.c_char.from_buffer(room))
 
 
 class Machine(_Held):
-    """A machine with this ROM, at power-on."""
-    _kind = 'machine'
+    """A machine with this ROM, the name of a file or its bytes, at power-on.
 
-    def __init__(self, rom: Buffer):
+    What is kept under a number is a whole state: `keep` and `back` cost what `state` and `restore` do, but for a copy of its bytes."""
+
+    def __init__(self, rom: Cart):
         super().__init__()
-        rom = bytes_of(rom)
-        self._make('new', _for_c(rom), len(rom))
+        rom = rom_of(rom)
+        self._make('new', rom, len(rom))
 
-    def __enter__(self) -> 'Machine':
-        return self
+    def _frames(self, buttons: int, count: int) -> None:
+        with self._lock:
+            while count > FRAMES_AT_ONCE:
+                self._call('frames', buttons, FRAMES_AT_ONCE)
+                count -= FRAMES_AT_ONCE
+            self._call('frames', buttons, count)
 
-    def frames(self, buttons: int, count: int = 1) -> None:
-        """Plays frames with these buttons held."""
-        self._call('frames', _number('buttons', buttons, 8), _number('count', count, 32))
+    def _seconds(self, count: int) -> None:
+        self._call('seconds', count)
 
-    def seconds(self, seconds: int) -> None:
-        """Lets seconds pass on the cartridge's clock."""
-        self._call('seconds', _number('seconds', seconds, 32))
-
-    def power(self) -> None:
-        """Switches the power off and on."""
+    def _power(self) -> None:
         self._done(self._call('power'))
 
-    def restore(self, state: Buffer) -> None:
-        """Makes it the machine whose state this is."""
-        state = bytes_of(state)
-        self._done(self._call('restore', _for_c(state), len(state)))
+    def _memory(self, address: int, count: int) -> bytes:
+        read = ctypes.create_string_buffer(count)
+        self._call('memory', address, read, count)
+        return read.raw
 
-    def memory(self, address: int, count: int = 1) -> bytes:
-        """What the program would read from this address on; after FFFF comes 0000."""
-        if not isinstance(count, int) or not 0 <= count <= 1 << 20:
-            raise Refused('count is more than a megabyte', '')
-        read = ctypes.create_string_buffer(max(count, 1))
-        self._call('memory', _number('address', address, 16), read, count)
-        return read.raw[:count]
+    def _memory_into(self, address: int, room: memoryview) -> None:
+        self._call('memory', address, _for_c(room), room.nbytes)
 
 
-def sectors_needed(rom: Buffer) -> int:
+def sectors_needed(rom: Cart) -> int:
     """How many sectors a session of this ROM needs at least."""
-    rom, needed, held = bytes_of(rom), ctypes.c_uint32(), _Held()
-    held._done(held._lib.gbkeep_session_sectors(_for_c(rom), len(rom), ctypes.byref(needed)))
+    rom, needed, held = rom_of(rom), ctypes.c_uint32(), _Held()
+    held._done(held._lib.gbkeep_session_sectors(rom, len(rom), ctypes.byref(needed)))
     return needed.value
 
 
 class Session(_Held):
     """A game on a disk of yours. `Session(rom)` begins one on a disk of zeros, `Session(rom, battery=file)` begins it with the battery file of another
-    emulator, `Session(rom, image)` takes up the one that an image holds.
+    emulator, `Session(rom, image)` takes up the one that an image holds. The ROM is the name of a file or its bytes.
 
-    The calls that `calls` hands out have to be made on the disk, in order, from the first on."""
+    The calls that `calls` hands out have to be made on the disk, in order, from the first on. `count` is how many inputs the game has, `saved` how many of them
+    the last save told. Frames, seconds, the power switch and states are refused at 3,200 unsaved inputs; then `count` tells how many frames were taken."""
     _kind = 'session'
+    saved: int
 
-    def __init__(self, rom: Buffer, image: Optional[Buffer] = None, sectors: Optional[int] = None, battery: Optional[Buffer] = None):
+    def __init__(self, rom: Cart, image: Optional[Buffer] = None, sectors: Optional[SupportsIndex] = None, battery: Optional[Buffer] = None):
         super().__init__()
-        rom = bytes_of(rom)
+        rom = rom_of(rom)
         if image is None:
-            sectors = _number('sectors', sectors_needed(rom) if sectors is None else sectors, 32)
+            sectors = number('sectors', sectors_needed(rom) if sectors is None else sectors, 0, MOST_GIVEN)
             if battery is None:
-                self._make('begin', _for_c(rom), len(rom), sectors)
+                self._make('begin', rom, len(rom), sectors)
             else:
                 battery = bytes_of(battery)
-                self._make('import', _for_c(rom), len(rom), _for_c(battery), len(battery), sectors)
+                self._make('import', rom, len(rom), battery, len(battery), sectors)
         elif battery is not None:
             raise Refused('a game is begun with a battery file, or taken up from an image', '')
         else:
             image = bytes_of(image)
-            self._make('resume', _for_c(rom), len(rom), _for_c(image), len(image))
+            self._make('resume', rom, len(rom), image, len(image))
+        self._rom, self._reader, self._is_read = rom, None, False
+        self.saved = self._last = self._call('count')
 
-    def __enter__(self) -> 'Session':
-        return self
+    @property
+    def count(self) -> int:
+        """How many inputs the game has; once it is closed, had."""
+        with self._lock:
+            if not self.closed:
+                self._last = self._call('count')
+            return self._last
 
-    def frames(self, buttons: int, count: int = 1) -> None:
-        """Gives frames with these buttons held. Refused at 3,200 unsaved inputs; `count` tells how many were taken."""
-        self._done(self._call('frames', _number('buttons', buttons, 8), _number('count', count, 32)))
+    def close(self) -> None:
+        """Frees it. What is unsaved is lost."""
+        with self._lock:
+            self._last = self.count
+            super().close()
+            self._reader = None
 
-    def seconds(self, seconds: int) -> None:
-        """Gives seconds of the clock, as one input."""
-        self._done(self._call('seconds', _number('seconds', seconds, 32)))
+    def _frames(self, buttons: int, count: int) -> None:
+        self._give('frames', buttons, count)
 
-    def power(self) -> None:
-        """Switches the power off and on, as one input."""
-        self._done(self._call('power'))
+    def _seconds(self, count: int) -> None:
+        self._give('seconds', count)
 
-    def restore(self, state: Buffer) -> None:
-        """Goes on with the machine whose state this is, as one input."""
-        state = bytes_of(state)
-        self._done(self._call('restore', _for_c(state), len(state)))
+    def _power(self) -> None:
+        self._give('power')
+
+    def _take(self, state: object) -> None:
+        with self._lock:
+            self._is_read = False
+            super()._take(state)
+
+    def _give(self, kind: str, *given: int) -> None:
+        with self._lock:
+            self._is_read = False
+            self._done(self._call(kind, *given))
+
+    def _memory(self, address: int, count: int) -> bytes:
+        return self._machine().memory(address, count)
+
+    def _memory_into(self, address: int, room: memoryview) -> None:
+        self._machine().memory_into(address, room)
+
+    def _machine(self) -> Machine:
+        """A machine that is as the session's: the library has no call that reads the memory of a session."""
+        with self._lock:
+            if self._reader is None:
+                self._reader = Machine(self._rom)
+            if not self._is_read:
+                self._reader._take(self._copy(None))
+                self._is_read = True
+            return self._reader
 
     def battery(self) -> bytes:
         """The battery file of the game, as other emulators read it. Refused for a cartridge without battery."""
+        self._has_to_be_open()
         length = self._call('battery_length')
         file = ctypes.create_string_buffer(max(length, 1))
         self._done(self._call('battery', file, length))
@@ -266,10 +351,15 @@ class Session(_Held):
         """Saves what is unsaved: the count of all inputs. It may be told once the calls that are then handed out were made."""
         saved = ctypes.c_uint64()
         self._done(self._call('save', ctypes.byref(saved)))
-        return saved.value
+        self.saved = saved.value
+        return self.saved
 
     def calls(self) -> Iterator[Call]:
         """The calls that have to be made and were not handed out yet."""
+        self._has_to_be_open()
+        return self._calls()
+
+    def _calls(self) -> Iterator[Call]:
         call = _Call()
         while True:
             self._call('next_call', ctypes.byref(call))
@@ -289,7 +379,3 @@ class Session(_Held):
                     if put == 0:
                         raise Refused('device failed', 'play')
                     done += put
-
-    def count(self) -> int:
-        """How many inputs the game has."""
-        return self._call('count')

@@ -13,6 +13,7 @@ from pathlib import Path
 from typing import NoReturn, Optional
 
 from examples.demo.assemble import Assembler
+from gbkeep import Refused
 from gbkeep.pictures import PNG_HEAD
 from scripts.doctor import told
 from scripts.not_tried import note
@@ -79,11 +80,11 @@ def wrong(line: str) -> NoReturn:
 
 
 def refusal(call: Callable[[], object], *kinds: type) -> Optional[str]:
-    """What a call refuses with, as one of these errors; None where it does not."""
+    """What a call refuses with, as one of these errors; None where it does not. Of a `Refused` it is the line alone."""
     try:
         call()
     except kinds as error:
-        return str(error)
+        return error.line if isinstance(error, Refused) else str(error)
     return None
 
 

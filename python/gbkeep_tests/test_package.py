@@ -1,10 +1,13 @@
-"""Tries the package as it is installed: what it exports, its launchers, where it looks for the program and the library, and how it does without other packages. It
-needs no program.
+"""Tries the package as it is installed: what it exports, its launchers, its refusals, what its calls take, where it looks for the program and the library, and
+how it does without other packages. It needs no program.
 
 usage: test_package.py [TEST..]"""
 import ast
+import copy
 import inspect
+import multiprocessing
 import os
+import pickle
 import re
 import shutil
 import subprocess
@@ -13,6 +16,7 @@ from pathlib import Path
 
 import gbkeep
 from gbkeep.game import PICTURE_HEAD, bytes_of
+from gbkeep.machines import number, room_of
 from gbkeep_tests import support
 from gbkeep_tests.support import TOP, expect
 from scripts.doctor import told
@@ -53,6 +57,64 @@ def test_names(folder):
                 expect(f'{name}.{call.__name__}: without a type', sorted({*given, 'return'} - {'self', 'cls'} - set(call.__annotations__)), [])
 
 
+def test_one_protocol(folder):
+    """Each machine has the calls of the protocol, with its words and types, and each game those of a game."""
+    machine, game = gbkeep.AnyMachine, gbkeep.AnyGame
+    for kind, protocol in ((gbkeep.Machine, machine), (gbkeep.DebugMachine, machine), (gbkeep.Session, game), (gbkeep.Game, game)):
+        calls = {name: call for one in protocol.__mro__ for name, call in vars(one).items()
+                 if inspect.isfunction(call) and name not in ('__init__', '__subclasshook__') and one.__module__ == protocol.__module__}
+        expect(f'{protocol.__name__}: its calls', {'frame', 'frames', 'seconds', 'power', 'keep', 'back', 'state', 'restore', 'memory', 'memory_into',
+                                                   'picture', 'picture_into', 'close', '__enter__', '__exit__'} - set(calls), set())
+        for name, call in calls.items():
+            expect(f'{kind.__name__}.{name}', str(inspect.signature(getattr(kind, name))), str(inspect.signature(call)))
+            expect(f'{kind.__name__}.{name} says what it does', name.startswith('__') or bool(getattr(kind, name).__doc__), True)
+        expect(f'{kind.__name__}.closed', isinstance(kind.closed, property), True)
+    expect('a picture is no machine', isinstance(gbkeep.Picture(PGM), gbkeep.AnyMachine), False)
+
+
+REFUSALS = {
+    'of a table': lambda: gbkeep.Refused('gbkeep: no battery', 'export'),
+    'of none': lambda: gbkeep.Refused('what nobody says', ''),
+    'with a code': lambda: gbkeep.Refused('save first', '', 'it is full', 'save it', 15),
+    'no program': lambda: gbkeep.MissingProgram('nowhere/gbkeep', 'no such program'),
+    'no state': lambda: gbkeep.NoState('damaged snapshot', 'these are no state', code=6),
+}
+
+
+def refuses(name):
+    """What a process of a pool does."""
+    raise REFUSALS[name]()
+
+
+def test_refusals(folder):
+    """A refusal says all of itself, and is the same one in another process."""
+    lines = {'of a table': "gbkeep: no battery: the cartridge's type names no battery, so the game keeps nothing; begin it by `new`",
+             'of none': 'what nobody says', 'with a code': 'save first: it is full; save it',
+             'no program': "nowhere/gbkeep can't be run: no such program; `make build` makes one, and the variable GBKEEP names another one",
+             'no state': 'damaged snapshot: these are no state; give what `state` answered of this cartridge'}
+    held = ('line', 'means', 'advice', 'code')
+    with multiprocessing.get_context('fork').Pool(1) as pool:
+        for name, make in REFUSALS.items():
+            one = make()
+            one.notes = ['of a caller']
+            expect(name, (str(one), one.told(), f'{one}'), (lines[name],) * 3)
+            others = [pickle.loads(pickle.dumps(one, protocol)) for protocol in range(pickle.HIGHEST_PROTOCOL + 1)] + [copy.copy(one), copy.deepcopy(one)]
+            for other in others:
+                expect(f'{name}: again', (type(other), str(other), other.args, vars(other)), (type(one), str(one), one.args, vars(one)))
+            try:
+                # a pool whose worker can't hand out what it raised waits for ever
+                pool.apply_async(refuses, (name,)).get(20)
+                support.wrong(f'{name}: nothing is raised')
+            except gbkeep.Refused as other:
+                expect(f'{name}: from a process', [type(other), *(getattr(other, part) for part in held)], [type(one), *(getattr(one, part) for part in held)])
+    expect('no state is a wrong value, too', (issubclass(gbkeep.NoState, ValueError), issubclass(gbkeep.NoState, gbkeep.Refused)), (True, True))
+    refused = gbkeep.Refused('gbkeep: device failed', 'new')
+    refused.means, refused.advice = 'x exists already', ''
+    expect('what is said of it later', str(refused), 'gbkeep: device failed: x exists already')
+    status, out, err = ran([sys.executable, '-B', '-c', 'import gbkeep; gbkeep.begin("a.gb", "b")'], PYTHONPATH=str(SOURCES), GBKEEP='nowhere/gbkeep')
+    expect('a traceback', (status, out, err.splitlines()[-1]), (1, '', f'gbkeep.machines.MissingProgram: {lines["no program"]}'))
+
+
 def test_modules(folder):
     """No module changes where Python looks for modules, or is named from outside the package."""
     for path in sorted((SOURCES / 'gbkeep').glob('*.py')):
@@ -76,6 +138,8 @@ def test_launchers(folder):
         status, out, err = ran([sys.executable, '-B', folder / 'installed/bin' / name, '--help'])
         expect(f'{name} --help', (status, f'usage: {name}' in out, err), (0, True, ''))
         expect('its page', f'.TH {name.upper()} 1' in (folder / f'installed/share/man/man1/{name}.1').read_text(), True)
+    expect('that it has types', (folder / 'installed/share/gbkeep/gbkeep/py.typed').exists(), True)
+    expect('also for pip', 'package-data = { gbkeep = ["py.typed"] }' in (SOURCES / 'pyproject.toml').read_text(), True)
     status, out, err = ran([sys.executable, '-B', folder / 'installed/bin/gbkeep-script', 'check', folder / 'none'])
     expect('a name in a refusal', (status, out, err), (1, '', f'gbkeep-script: {folder}/none: No such file or directory\n'))
     status, out, err = ran([sys.executable, '-B', '-m', 'gbkeep.script', 'check', folder / 'none'], PYTHONPATH=str(SOURCES))
@@ -115,7 +179,46 @@ def test_missing(folder):
     says = f'import gbkeep; print(len(gbkeep.Picture({PICTURE_HEAD!r} + b"3 " * 23040).png()) > 0)'
     expect('a picture without packages', ran([sys.executable, '-S', '-B', '-c', says], PYTHONPATH=str(SOURCES)), (0, 'True\n', ''))
     status, out, err = ran([sys.executable, '-B', '-c', 'import gbkeep; gbkeep.Machine(b"")'], PYTHONPATH=str(SOURCES), GBKEEP_LIBRARY=str(folder / 'none.so'))
-    expect('no library', (status, 'the library can\'t be loaded' in err), (1, True))
+    expect('no library', (status, 'the library can\'t be loaded' in err, '`make library` makes one' in err.splitlines()[-1]), (1, True, True))
+    status, out, err = ran([*bare, 'gbkeep.env', '--measure', 'game.gb'], PYTHONPATH=str(SOURCES))
+    expect('no numpy', (status, out, 'python3-numpy' in err, err.count('\n')), (1, '', True, 1))
+    status, out, err = ran([sys.executable, '-S', '-B', '-c', 'import gbkeep.env'], PYTHONPATH=str(SOURCES))
+    expect('no numpy for what takes it', (status, out, 'python3-numpy' in err.splitlines()[-1]), (1, '', True))
+
+
+class Index:
+    """A number that is none of Python's own, as numpy's are."""
+
+    def __init__(self, value):
+        self.value = value
+
+    def __index__(self):
+        return self.value
+
+
+def test_numbers(folder):
+    """Numbers are taken as Python takes an index; room is what can be written to, of the right length and without gaps."""
+    expect('numbers', [number('a', one, 0, 9) for one in (0, 9, True, Index(4))], [0, 9, 1, 4])
+    for kind, wrong in ((ValueError, (-1, 10, Index(10), 1 << 70)), (TypeError, (2.0, '2', None, b'2'))):
+        for one in wrong:
+            expect(f'{one!r}', support.refusal(lambda: number('a', one, 0, 9), kind) is not None, True)
+    room = bytearray(10)
+    view = memoryview(room)
+    expect('room', [room_of(one, 1, 10).nbytes for one in (room, view[3:5], view.cast('H'), view.cast('B', (2, 5)))], [10, 2, 10, 10])
+    for kind, wrong in ((TypeError, (b'ab', view.toreadonly(), 'ab', 7, None)), (ValueError, (bytearray(), bytearray(11), view[::2]))):
+        for one in wrong:
+            expect(f'{one!r}', support.refusal(lambda: room_of(one, 1, 10), kind) is not None, True)
+    try:
+        import numpy
+    except ImportError:
+        return
+    expect('numbers of numpy', [number('a', kind(7), 0, 9) for kind in (numpy.uint8, numpy.int64, numpy.array)], [7, 7, 7])
+    for one in (numpy.float64(7), numpy.array([7, 7])):
+        expect(f'{one!r}', support.refusal(lambda: number('a', one, 0, 9), TypeError) is not None, True)
+    rows = numpy.zeros((2, 5), numpy.uint8)
+    expect('room of numpy', (room_of(rows, 10, 10).nbytes, support.refusal(lambda: room_of(rows[:, ::2], 1, 10), ValueError) is not None), (10, True))
+    rows.flags.writeable = False
+    expect('none of it', support.refusal(lambda: room_of(rows, 1, 10), TypeError) is not None, True)
 
 
 def test_bytes(folder):

@@ -23,7 +23,7 @@ def has_library():
     try:
         library._library()
     except library.Refused as why:
-        note('hostile files, hosts of the library', why)
+        note('hostile files, hosts of the library', why.line)
         return False
     return True
 
@@ -101,7 +101,7 @@ class Host:
                 try:
                     library.Session(rom, battery=battery, sectors=sectors).close()
                 except library.Refused as refused:
-                    want('import: %s, wanted %s' % (refused, why), str(why).startswith(refused.line))
+                    want('import: %s, wanted %s' % (refused.line, why), str(why).startswith(refused.line))
                     battery = None
                 else:
                     raise Wrong('import: a file is taken: %s' % why)
@@ -115,7 +115,7 @@ class Host:
         """Goes on from what was left."""
         self.disk = Disk(image)
         self.session = library.Session(self.rom, image)
-        self.make_calls(self.session.count())
+        self.make_calls(self.session.count)
 
     def give(self, kind, *value):
         getattr(self.session, kind)(*value)
@@ -145,7 +145,7 @@ class Host:
     def save(self):
         """Saves, and tells it once all calls were made."""
         count = self.session.save()
-        want('save: %d, %d were given' % (count, len(self.inputs.given)), count == len(self.inputs.given) == self.session.count())
+        want('save: %d, %d were given' % (count, len(self.inputs.given)), count == len(self.inputs.given) == self.session.count)
         self.make_calls(count)
         want('the calls of a save end with no sync', not self.disk.since)
         self.told = count
@@ -180,7 +180,7 @@ class Host:
         shown = gbkeep('show', CART, SAVE)[1].decode().split('\n')
         want('show: %r' % shown, shown[0] == 'inputs %d' % count and shown[-2] == 'state ' + hashlib.sha256(state).hexdigest())
         with library.Session(self.rom, bytes(image)) as session:
-            want('the library takes up another game', (session.count(), session.state()) == (count, state))
+            want('the library takes up another game', (session.count, session.state()) == (count, state))
 
     def battery(self):
         """The battery file of the session is what the program exports of its disk."""
@@ -193,7 +193,7 @@ class Host:
             try:
                 self.session.battery()
             except library.Refused as refused:
-                return want('battery: %s' % refused, refused.line == 'no battery')
+                return want('battery: %s' % refused.line, refused.line == 'no battery')
             raise Wrong('a cartridge without battery gives a file')
         want('export: %r' % (got,), got == (0, b'exported %d\n' % self.told, b''))
         want('battery differs', self.session.battery() == get(EXPORTED) == battery_of(self.inputs.state(self.told), self.cart))
@@ -245,4 +245,4 @@ def hosts(rnd, seed):
             host.resume(host.life())
         host.session.close()
     except (Wrong, library.Refused, ref.Refused) as why:
-        differs('hosts', seed, str(why))
+        differs('hosts', seed, getattr(why, 'line', str(why)))
