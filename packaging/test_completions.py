@@ -15,7 +15,7 @@ from pathlib import Path
 
 import installed
 from gbkeep_tests import support
-from gbkeep_tests.support import TOP, expect
+from gbkeep_tests.support import TOP, expect, needs_terminal
 
 FILES = {'A Game.gb', 'game.gbkeep', 'A folder/'}
 FOLDERS = {'A folder/'}
@@ -79,6 +79,7 @@ TYPED = [
 
 
 def needs(shell: str) -> None:
+    needs_terminal(f'completions of {shell}')
     if not shutil.which(shell):
         raise unittest.SkipTest(f'completions of {shell}: {shell} is missing')
 

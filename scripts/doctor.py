@@ -74,6 +74,16 @@ def in_kit(*names):
     return kit() is not None and all(os.access(str(kit() / name), os.X_OK) for name in names)
 
 
+def has_terminals():
+    """Whether a process can be given a terminal of its own."""
+    try:
+        for one in os.openpty():
+            os.close(one)
+        return True
+    except OSError:
+        return False
+
+
 def cross_libc():
     return 'CC_ARM64' in os.environ or any(map(os.path.exists, ('/usr/aarch64-linux-gnu/include/errno.h', '/usr/include/aarch64-linux-gnu/errno.h')))
 
@@ -108,6 +118,7 @@ NEEDS = {
     'git': command('git', 'git'),
     'bash': command('bash', 'bash'),
     'pyflakes3': command('pyflakes3', 'pyflakes3'),
+    'a terminal': Need('', has_terminals, 'no process gets one of its own here: /dev/pts has to be mounted'),
     'strace': Need('strace', lambda: found('strace') and is_done('strace', '-o', '/dev/null', 'true'), other_way='or it may follow no process'),
     'unshare': Need('util-linux', lambda: found('unshare') and is_done('unshare', '--mount', 'true'), other_way='or it is refused here'),
     'valgrind': command('valgrind', 'valgrind'),
@@ -189,6 +200,7 @@ FREE = ('help', 'doctor', 'clean', 'clean-cache')
 LEFT_OUT = {
     'test': {
         'pyflakes3': 'no Python is looked at',
+        'a terminal': 'nothing is typed at a shell or a prompt',
         'git': 'no commit is told as the one that has passed',
         'strace': 'no system call is followed, or made to fail',
         'cc': 'the library for C and the core are not tried, no allocation is refused, no write is cut short',

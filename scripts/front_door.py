@@ -7,6 +7,8 @@ usage: front_door.py             at the top of the repository
 import definitions, functools, os, pty, re, select, shutil, subprocess, sys, tempfile, time
 from pathlib import Path
 
+from scripts.doctor import tries
+
 FAULT_FILES = ['crates/cartridge/src/error.rt', 'crates/sector_device/src/device.rt', 'crates/script/src/error.rt', 'crates/session/src/error.rt',
                'crates/streaming/src/error.rt', 'crates/recording/src/fault.rt', 'crates/replaying/src/error.rt', 'crates/recorded_play/src/error.rt', 'crates/battery_files/src/error.rt',
                'crates/debugging/src/error.rt', 'crates/commands/src/error.rt']
@@ -353,6 +355,8 @@ def installed(room):
 
 def completes_names(room, texts):
     """Types the beginning of a name with a space and Tab in a shell."""
+    if not tries('a name that a shell completes', 'a terminal'):
+        return []
     shutil.copy('examples/demo/demo.gb', os.path.join(room, 'A Game.gb'))
     child, terminal = pty.fork()
     if child == 0:

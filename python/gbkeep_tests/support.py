@@ -15,7 +15,7 @@ from typing import NoReturn, Optional
 from examples.demo.assemble import Assembler
 from gbkeep import Refused
 from gbkeep.pictures import PNG_HEAD
-from scripts.doctor import told
+from scripts.doctor import missing, told
 from scripts.not_tried import note
 
 TOP = Path(__file__).resolve().parent.parent.parent
@@ -171,6 +171,12 @@ def needs_pil(what: str) -> None:
     """Skips the test of that where there is no PIL."""
     if importlib.util.find_spec('PIL') is None:
         raise unittest.SkipTest(f'{what}: {told("PIL")}')
+
+
+def needs_terminal(what: str) -> None:
+    """Skips the test of that where no process can have a terminal of its own."""
+    if missing('a terminal'):
+        raise unittest.SkipTest(f'{what}: {told("a terminal")}')
 
 
 def image_of(path: Path):

@@ -16,7 +16,7 @@ import types
 import zipfile
 
 from gbkeep_tests import support
-from gbkeep_tests.support import CART, TOP, clock_cart, expect
+from gbkeep_tests.support import CART, TOP, clock_cart, expect, needs_terminal
 from gbkeep.branch import branch
 from gbkeep.film import HEAD as FILM_HEAD
 from gbkeep.game import A, LEFT, RIGHT, START, Game, DebugMachine, Refused, begin, run
@@ -53,6 +53,7 @@ class Room(support.Room):
 
     def tool_at_terminal(self, tool, *words):
         """The status of a tool, what it prints, and what it tells a terminal."""
+        needs_terminal('what a tool tells a terminal')
         ours, terminal = pty.openpty()
         done = subprocess.run([*words_of(tool), *words], stdout=subprocess.PIPE, stderr=terminal, env=dict(os.environ, GBKEEP=self.program))
         os.close(terminal)
