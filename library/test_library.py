@@ -558,6 +558,8 @@ class OneProtocol(InFolder):
             self.assertEqual(sorted(ended), ['the machine is closed'] * 2 + ['the session is closed'])
 
     def test_a_ctrl_c_ends_a_long_play(self):
+        # what a shell starts in the background ignores it
+        self.addCleanup(signal.signal, signal.SIGINT, signal.signal(signal.SIGINT, signal.default_int_handler))
         with Machine(ROM) as machine:
             threading.Timer(0.3, os.kill, (os.getpid(), signal.SIGINT)).start()
             began = time.monotonic()
