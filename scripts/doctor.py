@@ -17,7 +17,8 @@ import sys
 from pathlib import Path
 
 PYTHON = (3, 10)
-TOP = Path(__file__).resolve().parent.parent
+# the clone that is made, also where its scripts are a link
+TOP = Path(os.path.abspath(__file__)).parent.parent
 # where programs of the system's are that a user does not have on his search path
 ALSO = '/usr/sbin:/sbin'
 
