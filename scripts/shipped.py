@@ -46,15 +46,17 @@ GATE = ('busy', 'compiled', 'scrolling', 'raster', 'game', 'unpack', 'picture_sc
 MOST = 1.05
 # the loops in which most instructions are made, and how many copies of each there are: one for each place of PC, and for each watch
 LOOPS = {'program': {'run_fast_steps_by': 5, 'run_fast_counted_by': 3, 'run_fast_unseen_by': 5, 'run_watching_by': 18}, 'library': {'run_fast_steps_by': 5}}
+# the C library copies and clears memory by what the processor has: without that the counts are the same on another one
+PLAIN = 'glibc.cpu.hwcaps=-AVX,-AVX2,-AVX512F,-AVX512VL,-AVX512BW,-ERMS,-FSRM,-AVX_Fast_Unaligned_Load'
 MATCH = re.compile(r'::run_(instruction|opcode|bit_opcode)(::<|$)')
 
 
-def run(words, text=b''):
-    return subprocess.run([str(word) for word in words], input=text, capture_output=True, check=True)
+def run(words, text=b'', **more):
+    return subprocess.run([str(word) for word in words], input=text, capture_output=True, check=True, env=dict(os.environ, **more))
 
 
 def instructions(words, text=b''):
-    done = run(['valgrind', '--tool=callgrind', '--callgrind-out-file=/dev/null', *words], text)
+    done = run(['valgrind', '--tool=callgrind', '--callgrind-out-file=/dev/null', *words], text, GLIBC_TUNABLES=PLAIN)
     return int(re.search(rb'Collected : (\d+)', done.stderr)[1])
 
 
