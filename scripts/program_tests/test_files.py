@@ -1,7 +1,9 @@
 """Files that the program must not lose: whatever stands where it would write, whatever is done to a file while it is open, and wherever it is ended."""
+import hashlib
 import os
 import resource
 import subprocess
+import time
 
 from room import LOOP, PGM, PICTURE, SECONDS
 from scripts.doctor import tries
@@ -45,7 +47,12 @@ def test_a_file_that_is_no_picture_is_not_emptied(room):
     room.done('export kept.gb kept.gbkeep kept.sav', 'exported 0\n')
     room.write('notes.txt', 'P1\n1 1\n0\n')
     room.write('one.txt', 'P')
-    files = 'game.rec', 'kept.gbkeep', 'kept.gb', 'kept.sav', 'notes.txt', 'one.txt', 'game.gb', 'plain.gbkeep'
+    # what only begins as a picture does
+    room.write('plan.txt', 'P2, as we said, is the second part\n')
+    room.write('other.pgm', 'P2\n160 144\n15\n')
+    room.write('cut.pgm', PGM[:-1])
+    room.rom('p2.gb', '', {0: ord('P'), 1: ord('2')})
+    files = 'game.rec', 'kept.gbkeep', 'kept.gb', 'kept.sav', 'notes.txt', 'one.txt', 'plan.txt', 'other.pgm', 'cut.pgm', 'p2.gb', 'game.gb', 'plain.gbkeep'
     with unchanged(room, *files):
         for out in files:
             room.refused(f'frame game.gb plain.gbkeep {out}', 'gbkeep: file failed\n')
@@ -228,7 +235,7 @@ def test_a_recorded_game_is_played_by_record_alone(room):
     new_pair(room, 'plain.gbkeep', 'plain.rec')
     os.symlink('game.gbkeep', room.folder / 'link.gbkeep')
     room.done('record game.gb game.gbkeep game.rec', 'resumed 0\nsaved 1\n', 'frame 01\n')
-    room.expect('the mark', room.read('game.gbkeep.recorded'), b'game.rec\ngbkeep record\n')
+    room.expect('the mark', room.read('game.gbkeep.recorded'), mark_of('game.rec', 1, 0))
     with unchanged(room, 'game.gbkeep', 'game.rec', 'game.gbkeep.recorded'):
         for name in ('game.gbkeep', 'link.gbkeep', './game.gbkeep'):
             room.refused(f'play game.gb {name} one.script', 'gbkeep: recorded game: play it by record\n')
@@ -284,3 +291,166 @@ def test_import_alone_warns_of_a_name_of_battery_files(room):
             room.refused(f'{command} {name}', 'gbkeep: device failed\n')
             room.done(f'play kept.gb {name} none', 'resumed 0\n')
             (room.folder / name).unlink()
+
+
+# ---- the mark of a recorded game
+
+def long_pair(room, name, lines):
+    """A game of 21,000 inputs, more than are replayed when it is taken up, and its recording."""
+    new_pair(room, f'{name}.gbkeep', f'{name}.rec', 40)
+    saved = ''.join(f'saved {count}\n' for count in (*range(3200, 21_000, 3200), 21_000))
+    room.done(f'record game.gb {name}.gbkeep {name}.rec', f'resumed 0\n{saved}', lines)
+
+
+def mark_of(recording, buttons, count):
+    """A mark as it is after a game of these frames was taken up: each input is five bytes."""
+    return f'{recording}\ngbkeep record\n{count} {hashlib.sha256(bytes([0, buttons, 0, 0, 0]) * count).hexdigest()}\n'.encode()
+
+
+def test_a_mark_knows_its_recording(room):
+    """The recording of another play is refused, however long the game is, and one that was moved or lengthened is taken."""
+    cartridge(room)
+    long_pair(room, 'game', 'frames 01 21000\n')
+    long_pair(room, 'other', 'frames 01 20998\nseconds 5\nframe 01\n')
+    room.expect('a mark of a new game', room.read('game.gbkeep.recorded'), mark_of('game.rec', 1, 0))
+    # a mark that knows no input: one of another name is compared by its machine, however long the game is
+    with unchanged(room, 'game.gbkeep', 'game.rec', 'other.gbkeep', 'other.rec', 'game.gbkeep.recorded'):
+        room.refused('record game.gb game.gbkeep other.rec', 'gbkeep: machines differ\n', given='frame 01\n')
+    (room.folder / 'game.rec').rename(room.folder / 'first.rec')
+    room.done('record game.gb game.gbkeep first.rec', 'resumed 21000\n')
+    (room.folder / 'first.rec').rename(room.folder / 'game.rec')
+    room.done('record game.gb game.gbkeep game.rec', 'resumed 21000\nsaved 21001\n', 'frame 01\n')
+    room.expect('the mark', room.read('game.gbkeep.recorded'), mark_of('game.rec', 1, 21_000))
+    room.done('record game.gb other.gbkeep other.rec', 'resumed 21000\nsaved 21002\n', 'frames 01 2\n')
+    # one of as many inputs, whose machine is compared as long as the mark does not know all of the game's
+    for refusal in ('machines differ', 'other recording'):
+        with unchanged(room, 'game.gbkeep', 'game.rec', 'other.gbkeep', 'other.rec', 'game.gbkeep.recorded'):
+            room.refused('record game.gb game.gbkeep other.rec', f'gbkeep: {refusal}\n', given='frame 01\n')
+        room.done('record game.gb game.gbkeep game.rec', 'resumed 21001\n')
+    # a recording that has fewer inputs than the mark knows is an older copy, of a game that is one
+    copy(room, 'game.gbkeep', 'old.gbkeep')
+    copy(room, 'game.rec', 'old.rec')
+    room.done('record game.gb game.gbkeep game.rec', 'resumed 21001\nsaved 21002\n', 'frame 01\n')
+    room.done('record game.gb game.gbkeep game.rec', 'resumed 21002\n')
+    copy(room, 'old.gbkeep', 'game.gbkeep')
+    with unchanged(room, 'game.gbkeep', 'old.rec', 'game.gbkeep.recorded'):
+        room.refused('record game.gb game.gbkeep old.rec', 'gbkeep: other recording\n', given='frame 01\n')
+    (room.folder / 'game.rec').rename(room.folder / 'moved.rec')
+    room.done('record game.gb game.gbkeep moved.rec', 'resumed 21002\nsaved 21003\n', 'frame 01\n')
+    room.expect('the mark of a recording that was moved', room.read('game.gbkeep.recorded'), mark_of('moved.rec', 1, 21_001))
+    room.expect('no other file is left', [name for name in names(room) if 'part' in name], [])
+
+
+def test_a_mark_of_two_lines_is_completed(room):
+    cartridge(room)
+    new_pair(room, 'game.gbkeep', 'game.rec')
+    room.done('record game.gb game.gbkeep game.rec', 'resumed 0\nsaved 3\n', 'frames 01 3\n')
+    room.write('game.gbkeep.recorded', 'game.rec\ngbkeep record\n')
+    room.done('record game.gb game.gbkeep game.rec', 'resumed 3\n')
+    room.expect('the mark', room.read('game.gbkeep.recorded'), mark_of('game.rec', 1, 3))
+    # a name may have lines of its own
+    name = 'two\nlines\ngbkeep record\n0 0.rec'
+    (room.folder / 'game.rec').rename(room.folder / name)
+    room.compared(['record', 'game.gb', 'game.gbkeep', name], 'frame 01\n', 0, b'resumed 3\nsaved 4\n', b'')
+    room.expect('the mark of such a name', room.read('game.gbkeep.recorded'), mark_of(name, 1, 3))
+    room.compared(['record', 'game.gb', 'game.gbkeep', name], 'frame 01\n', 0, b'resumed 4\nsaved 5\n', b'')
+
+
+def test_what_is_no_mark_is_refused(room):
+    cartridge(room)
+    new_pair(room, 'game.gbkeep', 'game.rec')
+    room.done('record game.gb game.gbkeep game.rec', 'resumed 0\nsaved 3\n', 'frames 01 3\n')
+    mark, whole = room.folder / 'game.gbkeep.recorded', mark_of('game.rec', 1, 3)
+    wrong = [b'', b'of mine\n', b'game.rec\n', whole[:-1], whole + b'\n', whole.replace(b'3 ', b'03 '), whole.replace(b'3 ', b'18446744073709551616 '),
+             whole.upper(), whole.replace(b'gbkeep record', b'gbkeep records'), whole[:-2] + b'\n', b'\xff' + bytes(9000)]
+    for junk in wrong:
+        mark.write_bytes(junk)
+        with unchanged(room, 'game.gbkeep', 'game.rec', 'game.gbkeep.recorded'):
+            room.refused('record game.gb game.gbkeep game.rec', 'gbkeep: file failed\n', given='frame 01\n')
+            room.refused('stream game.gb game.gbkeep', 'gbkeep: recorded game: play it by record\n', given='frame 01\n')
+    mark.unlink()
+    os.mkdir(mark)
+    room.refused('record game.gb game.gbkeep game.rec', 'gbkeep: file failed\n', given='frame 01\n')
+    os.rmdir(mark)
+    os.symlink('nowhere', mark)
+    room.refused('record game.gb game.gbkeep game.rec', 'gbkeep: file failed\n', given='frame 01\n')
+    room.expect('a link to nothing stays one', (os.readlink(mark), room.size('nowhere')), ('nowhere', None))
+    mark.unlink()
+    room.done('record game.gb game.gbkeep game.rec', 'resumed 3\nsaved 4\n', 'frame 01\n')
+    room.expect('the mark', mark.read_bytes(), whole)
+
+
+# ---- calls of the system that fail
+
+def traced(room, words, *injected):
+    """Status, output and errors of a command of which some calls fail, or end it."""
+    room.runs += 1
+    done = subprocess.run(['strace', '-f', '-qq', '-o', '/dev/null', *injected, room.program, *words.split()], capture_output=True, cwd=room.folder, timeout=SECONDS)
+    return done.returncode, done.stdout, done.stderr
+
+
+def test_a_mark_stays_until_the_new_game_has_its_name(room):
+    if not tries('program, calls of the system that fail', 'strace'):
+        return
+    cartridge(room)
+    battery_cartridge(room)
+    room.write('some.bat', bytes(RAM))
+    mark = mark_of('game.rec', 1, 3)
+    for command in ('new kept.gb', 'import kept.gb some.bat'):
+        for how in ('error=EIO', 'signal=KILL'):
+            room.write('game.gbkeep.recorded', mark)
+            status, out, _ = traced(room, f'{command} game.gbkeep', '-e', 'trace=rename', '-e', f'inject=rename:{how}')
+            room.expect(f'{command}, {how} at the rename', (status != 0, out, room.read('game.gbkeep.recorded')), (True, b'', mark))
+            (room.folder / 'game.gbkeep').unlink(missing_ok=True)
+        room.done(f'{command} game.gbkeep', 'begun 0\n')
+        room.expect(f'{command}: the mark of the game before', room.size('game.gbkeep.recorded'), None)
+        (room.folder / 'game.gbkeep').unlink()
+
+
+def test_a_file_that_was_moved_to_the_name_stays(room):
+    """Where the folder's sync fails behind the rename, only the file that was made goes."""
+    if not tries('program, calls of the system that fail', 'strace'):
+        return
+    cartridge(room)
+    battery_cartridge(room)
+    room.write('some.bat', bytes(RAM))
+    room.done('new kept.gb kept.gbkeep', 'begun 0\n')
+    for command, name, fault in (('new kept.gb', 'made.gbkeep', 'device failed'), ('import kept.gb some.bat', 'made.gbkeep', 'device failed'),
+                                 ('new-recording kept.gb', 'made.rec', 'device failed'), ('export kept.gb kept.gbkeep', 'made.sav', 'file failed')):
+        words, path = f'{command} {name}' + ' 8' * command.startswith('new-'), room.folder / name
+        calls = room.folder / 'calls'
+        subprocess.run(['strace', '-f', '-qq', '-o', calls, '-e', 'trace=fsync', room.program, *words.split()], capture_output=True, cwd=room.folder, timeout=SECONDS)
+        last = calls.read_text().count('fsync(')
+        path.unlink()
+        fails = f'inject=fsync:error=EIO:delay_enter=400000:when={last}'
+        status, out, err = traced(room, words, '-e', 'trace=fsync', '-e', fails)
+        room.expect(f'{command}: refused, and no file is left', (status, out, err, path.exists()), (1, b'', f'gbkeep: {fault}\n'.encode(), False))
+        room.write('another', b'of mine')
+        slow = subprocess.Popen(['strace', '-f', '-qq', '-o', '/dev/null', '-e', 'trace=fsync', '-e', fails, room.program, *words.split()], cwd=room.folder,
+                                stdout=subprocess.PIPE, stderr=subprocess.PIPE)
+        room.runs += 1
+        until = time.monotonic() + SECONDS
+        while not (path.exists() and path.stat().st_size) and time.monotonic() < until:
+            time.sleep(0.01)
+        os.replace(room.folder / 'another', path)
+        out, err = slow.communicate(timeout=SECONDS)
+        room.expect(f'{command}: a file that was moved there', (slow.returncode, out, err, room.read(name)), (1, b'', f'gbkeep: {fault}\n'.encode(), b'of mine'))
+        path.unlink()
+
+
+def test_no_command_waits_for_a_file(room):
+    """A file of the system whose length says nothing, one that gives less than its length says, and one that would wait for ever."""
+    cartridge(room)
+    battery_cartridge(room)
+    room.done('new kept.gb kept.gbkeep', 'begun 0\n')
+    room.write('empty', b'')
+    room.refused('info empty', 'gbkeep: rom length 0\n')
+    files = ['/proc/version']
+    if tries('program, a file of the system that waits', 'root'):
+        files.append('/proc/kmsg')
+    files += [path for path in ('/sys/kernel/uevent_seqnum', '/sys/kernel/mm/transparent_hugepage/enabled') if os.path.exists(path)][:1]
+    for path in files:
+        with unchanged(room, 'kept.gbkeep'):
+            for words in (f'info {path}', f'step {path} 1', f'play kept.gb kept.gbkeep {path}', f'import kept.gb {path} new.gbkeep', f'new {path} new.gbkeep'):
+                room.refused(words, 'gbkeep: file failed\n')
+        room.expect('no file is made', room.size('new.gbkeep'), None)

@@ -665,8 +665,8 @@ def no_longer_named(rnd, seed):
 
 
 def is_emptied(old):
-    """Whether `frame` takes the place of such a file: one that is empty, or begins as a plain picture does."""
-    return old == b'' or old.startswith(b'P2')
+    """Whether `frame` takes the place of such a file: one that is empty, or begins as its pictures do."""
+    return old == b'' or old.startswith(b'P2\n160 144\n3\n')
 
 
 def drawn_over(rnd, seed):
@@ -680,7 +680,7 @@ def drawn_over(rnd, seed):
     if status:
         return          # a game whose generations are used up
     picture = get(OUT)
-    for old in (b'', b'P2', b'P2\n1 1\n1\n0\n', picture + rnd.randbytes(99), b'P', b'p2\n', b'P5\n160 144\n3\n', b' P2', b'P1\n', image[:rnd.choice([1, 2, 512, len(image)])],
+    for old in (b'', b'P2', b'P2, said he', b'P2\n1 1\n1\n0\n', picture + rnd.randbytes(99), picture[:rnd.randint(10, 16)], b'P', b'p2\n', b'P5\n160 144\n3\n', b' P2', b'P1\n', image[:rnd.choice([1, 2, 512, len(image)])],
                 rnd.randbytes(rnd.choice([1, 2, 3, 512])), b'GBKPROOT', get(CART)[:rnd.choice([1, 2, 0x8000])]):
         put(OUT, old)
         put(SAVE, image)

@@ -8,6 +8,7 @@ from gbkeep.save_files import Cartridge, Refused, get, inputs_of, looked_at, mov
 
 RECORDING = os.path.join(ROOM, 'game.recording')
 OTHER = os.path.join(ROOM, 'other.recording')
+MARK = SAVE + '.recorded'
 
 
 def is_as(kind, seed, what, got, want):
@@ -24,10 +25,15 @@ def new_recording(rnd, seed, cart, sectors):
         'recordings', seed, 'a new recording', get(RECORDING), bytes(ref.new_recording(sectors, cart)))
 
 
+def mark():
+    """The bytes of the mark; None where there is none."""
+    return get(MARK) if os.path.exists(MARK) else None
+
+
 def recorded(image, recording, cart, lines, agree):
-    """Status, output without its pictures, errors, and the game with both files that `record` leaves. `agree`: the machine of the game is the one
+    """Status, output without its pictures, errors, and the game with its files that `record` leaves. `agree`: the machine of the game is the one
     after the recorded inputs, which this reader can't see."""
-    game = ref.RecordedGame(image, recording, cart, agree)
+    game = ref.RecordedGame(image, recording, cart, agree, mark(), RECORDING.encode())
     moves, wrong = moves_before(lines, switches=False)
     try:
         game.take_up()
@@ -46,9 +52,10 @@ def compare_record(seed, cart, lines, note, agree=True):
         is_as('recordings', seed, note, (done.returncode, done.stdout, done.stderr), wrong_size())
         return is_as('recordings', seed, note + ', files', (get(SAVE), get(RECORDING)), (image, recording))
     told, _ = without_pictures(done.stdout)
-    good = (done.returncode, told, done.stderr) == want[:3] and same_file(get(SAVE), want[3]) and get(RECORDING) == want[3].recorded()
+    files = same_file(get(SAVE), want[3]), get(RECORDING) == want[3].recorded(), mark() == want[3].mark
+    good = (done.returncode, told, done.stderr) == want[:3] and all(files)
     if not good:
-        files = 'SAVE %s, RECORDING %s' % tuple('as wanted' if one else 'differs' for one in (same_file(get(SAVE), want[3]), get(RECORDING) == want[3].recorded()))
+        files = 'SAVE %s, RECORDING %s, its mark %s' % tuple('as wanted' if one else 'differs' for one in files)
         differs('recordings', seed, '%s wanted %r got %r, %s' % (note, (want[0], want[1][-60:], want[2]), (done.returncode, told[-60:], done.stderr), files))
     return good
 
@@ -161,11 +168,20 @@ def same_again(seed, cart):
         differs('recordings', seed, 'the recording played again is another game: %r %r' % (first, second))
 
 
+def other_mark(rnd, inputs):
+    """A mark, or what is none: None where the file goes."""
+    name = rnd.choice([b'game.rec', RECORDING.encode(), b'', b'two\nlines'])
+    known = rnd.randint(0, len(inputs))
+    whole = ref.mark_of(name, inputs[:known])
+    wrong = ref.mark_of(name, inputs[:known][:-1] + [b'\0\x5a'])
+    return rnd.choice([None, whole, wrong, name + b'\ngbkeep record\n', whole[:rnd.randrange(len(whole))], whole.replace(b'\n%d ' % known, b'\n%d ' % (known + 1)), b'', rnd.randbytes(9)])
+
+
 def recordings(rnd, seed):
     try:
         of_a_pair(rnd, seed)
     finally:
-        hostile.gone(SAVE + '.recorded')
+        hostile.gone(MARK)
 
 
 def of_a_pair(rnd, seed):
@@ -179,6 +195,13 @@ def of_a_pair(rnd, seed):
             return
     same_again(seed, cart)
     sound, recording = get(SAVE), get(RECORDING)
+    for _ in range(3):
+        put(SAVE, sound), put(RECORDING, recording)
+        other = other_mark(rnd, ref.Recording(recording, cart).inputs)
+        hostile.gone(MARK) if other is None else put(MARK, other)
+        compare_record(seed, cart, [b'frames 01 3'], 'the mark %r' % other)
+        compare_record(seed, cart, [b'frames 02 3'], 'after the mark %r' % other)
+    put(SAVE, sound), put(RECORDING, recording), hostile.gone(MARK)
     other = Cartridge(hostile.random_rom(rnd))
     # a recording that is ahead: the rest of it is given to the game
     compare_record(seed, cart, [b'frames 01 9', b'seconds 2', b'save'], 'one save more')
@@ -191,6 +214,9 @@ def of_a_pair(rnd, seed):
     put(SAVE, sound)
     compare_record(seed, cart, [b'frame 02'], 'far ahead')
     for turn in range(5):
+        # of the older recording the mark does not know
+        if turn:
+            hostile.gone(MARK)
         put(SAVE, sound if rnd.random() < 0.7 else hostile.damaged(rnd, sound, cart, other))
         put(RECORDING, damaged(rnd, recording, cart, other))
         agree = compare_looks(seed, cart, 'damage %d' % turn)

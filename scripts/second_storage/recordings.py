@@ -1,6 +1,9 @@
-"""A second reader and writer of recordings, written from docs/STORAGE.md and docs/COMMANDS.md.
+"""A second reader and writer of recordings and of the marks of recorded games, written from docs/STORAGE.md and docs/COMMANDS.md.
 
 An input is six bytes, as save_files.inputs_of has it: `00` and the buttons, or `01`, four bytes of seconds and `00`."""
+import hashlib
+import re
+
 from gbkeep.save_files import Game, MOST_UNSAVED, Refused, SECTOR, le, looked_at
 
 ENTRIES = 83                # entries of a full sector
@@ -138,12 +141,34 @@ def script_of(inputs):
     return ''.join(line + '\n' for line in lines).encode()
 
 
-class RecordedGame(Game):
-    """A save file and a recording that `record` writes."""
+SECOND_LINE = b'\ngbkeep record\n'
+MARKED = re.compile(rb'.*\ngbkeep record\n(?:(0|[1-9][0-9]*) ([0-9a-f]{64})\n)?', re.DOTALL)
 
-    def __init__(self, image, recording, cart, agree=True):
+
+def digest_of(inputs):
+    """The SHA-256 of inputs, five bytes each."""
+    return hashlib.sha256(b''.join(given[:5].ljust(5, b'\0') for given in inputs)).hexdigest().encode()
+
+
+def mark_of(name, inputs):
+    """The mark of a game that had these inputs when it was taken up, with a recording of this name."""
+    return b'%s\ngbkeep record\n%d %s\n' % (name, len(inputs), digest_of(inputs))
+
+
+def read_mark(mark):
+    """How many inputs a mark knows, and their digest."""
+    found = MARKED.fullmatch(mark)
+    if not found or found[1] and int(found[1]) >= 2 ** 64:
+        raise Refused('file failed')
+    return int(found[1] or 0), found[2] or digest_of([])
+
+
+class RecordedGame(Game):
+    """A save file and a recording that `record` writes. `mark`: the bytes of SAVE.recorded, None where there is none; `name`: RECORDING as it is given."""
+
+    def __init__(self, image, recording, cart, agree=True, mark=None, name=b''):
         super().__init__(image, cart)
-        self.recording, self.agree = None, agree
+        self.recording, self.agree, self.mark, self.name = None, agree, mark, name
         self.recorded_image = bytearray(recording)
 
     def take_up(self):
@@ -157,6 +182,13 @@ class RecordedGame(Game):
             raise Refused('recording ahead, %d inputs' % len(self.recording.inputs))
         if count <= MOST_COMPARED and not self.agree:
             raise Refused('machines differ')
+        if self.mark is not None:
+            known, digest = read_mark(self.mark)
+            if not self.mark.startswith(self.name + SECOND_LINE) and known < count and not self.agree:
+                raise Refused('machines differ')
+            if known > len(self.recording.inputs) or digest_of(self.recording.inputs[:known]) != digest:
+                raise Refused('other recording')
+        self.mark = mark_of(self.name, self.recording.inputs[:count])
         self.resume()
         self.report = b''
         for given in self.recording.inputs[count:]:

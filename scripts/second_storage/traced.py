@@ -74,20 +74,21 @@ class Pair(Recorded, recordings.RecordedGame):
     """A game and its recording, whose calls are noted in one order; those of the recording begin with R, that of the mark with M."""
 
     def __init__(self, image, recording, cart):
-        recordings.RecordedGame.__init__(self, image, recording, cart)
+        recordings.RecordedGame.__init__(self, image, recording, cart, mark=recorded.mark(), name=recorded.RECORDING.encode())
         self.calls = []
 
     def resume(self):
         ref.Game.resume(self)
 
     def take_up(self):
-        # both files as they are attached, as they are opened to be compared, and as they are opened to be played
-        self.calls += ['sync', 'R sync', 'sync', 'R sync']
-        if not os.path.exists(hostile.SAVE + '.recorded'):
-            self.calls += ['M sync', 'sync of the folder']
-        self.calls += ['sync', 'R sync']
+        # both files as they are attached, and as they are opened to be compared, the recording as it is compared with the mark, and both as they are
+        # opened to be played
+        before = self.mark
         recordings.RecordedGame.take_up(self)
-        self.calls.append('resumed %d\n' % self.count)
+        given, self.calls = self.calls, ['sync', 'R sync', 'sync', 'R sync', 'R sync']
+        if self.mark != before:
+            self.calls += ['M sync', 'M named', 'sync of the folder']
+        self.calls += ['sync', 'R sync', *given, 'resumed %d\n' % self.count]
 
     def save(self):
         before = len(self.recording.writes)
@@ -120,7 +121,8 @@ def calls_of(trace, save, other=recorded.RECORDING):
     """What a trace shows of the save file, of the recording, of the mark of a recorded game and of standard output, in order. A file that is made
     has another name until it is whole."""
     calls, fd, folder, at, second, mark, made = [], None, None, 0, None, None, None
-    hidden = ['"%s"' % hexadecimal(path) for path in (save, os.path.dirname(save), other, save + '.recorded')]
+    hidden = ['"%s"' % hexadecimal(path) for path in (save, os.path.dirname(save), other, recorded.MARK)]
+    part = hexadecimal(recorded.MARK + '.')
     for row in open(trace):
         found = CALL.match(row)
         if not found:
@@ -135,8 +137,10 @@ def calls_of(trace, save, other=recorded.RECORDING):
             fd, made = answer, save
         elif name == 'openat' and hidden[2] in words and answer >= 0:
             second, made = answer, other
-        elif name == 'openat' and hidden[3] in words and answer >= 0:
+        elif name == 'openat' and part in words and answer >= 0:
             mark = answer
+        elif name == 'rename' and answer == 0 and part in words and words.endswith(hidden[3]):
+            calls.append('M named')
         elif name == 'rename' and answer == 0 and hexadecimal('/.gbkeep-') in words and words.endswith('"%s"' % hexadecimal(made)):
             calls.append('named')
         elif name == 'openat' and hidden[1] in words and answer >= 0:

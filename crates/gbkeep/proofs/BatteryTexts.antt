@@ -6,7 +6,7 @@ use Rattle.battery_files.specs.Importing.{is_taken_length}
 use Rattle.command_line.specs.declared.Request.TheVariants.{Import}
 use Rattle.gbkeep.specs.Program.{IsBatteryFault, IsRefused}
 use Rattle.gbkeep.specs.declared.fault.Fault.{Fault}
-use Rattle.gbkeep.specs.declared.fault.Fault.TheVariants.{Cart, Memory, File, Output, Address, Word, Device, Script, Session, Line, Input, Snapshot, Recording, Behind, Ahead, Differ, RecordedGame, TestFailed, TestUndecided, NoBattery, BatteryLength}
+use Rattle.gbkeep.specs.declared.fault.Fault.TheVariants.{Cart, Memory, File, Output, Address, Word, Device, Script, Session, Line, Input, Snapshot, Recording, Behind, Ahead, Differ, OtherRecording, RecordedGame, TestFailed, TestUndecided, NoBattery, BatteryLength}
 
 pub accepted_image : (rom image : List ℕ) → image ≡ rom → IsAccepted rom → IsAccepted image
 accepted_image rom image is accepted = subst (λ (r : List ℕ). IsAccepted r) (sym is) accepted
@@ -31,6 +31,7 @@ battery_refused rom contents accepted cart battery save sectors old new keeps (R
 battery_refused rom contents accepted cart battery save sectors old new keeps (Behind count) is = absurd is
 battery_refused rom contents accepted cart battery save sectors old new keeps (Ahead count) is = absurd is
 battery_refused rom contents accepted cart battery save sectors old new keeps Differ is = absurd is
+battery_refused rom contents accepted cart battery save sectors old new keeps OtherRecording is = absurd is
 battery_refused rom contents accepted cart battery save sectors old new keeps RecordedGame is = absurd is
 battery_refused rom contents accepted cart battery save sectors old new keeps TestFailed is = absurd is
 battery_refused rom contents accepted cart battery save sectors old new keeps TestUndecided is = absurd is

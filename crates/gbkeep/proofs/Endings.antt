@@ -6,7 +6,7 @@ use Rattle.test_run.specs.declared.verdict.Verdict.TheVariants.{Failed, Undecide
 use Rattle.replaying.specs.declared.error.VerifyError.TheVariants.{Behind as RecordingBehind, Differ as MachinesDiffer}
 use Rattle.gbkeep.specs.declared.words.Asked.TheVariants.{Command}
 use Rattle.gbkeep.specs.declared.fault.Fault.{Fault}
-use Rattle.gbkeep.specs.declared.fault.Fault.TheVariants.{Cart, Memory, File, Output, Address, Word, Device, Script, Session, Line, Input, Snapshot, Recording, Behind, Ahead, Differ, RecordedGame, TestFailed, TestUndecided, NoBattery, BatteryLength}
+use Rattle.gbkeep.specs.declared.fault.Fault.TheVariants.{Cart, Memory, File, Output, Address, Word, Device, Script, Session, Line, Input, Snapshot, Recording, Behind, Ahead, Differ, OtherRecording, RecordedGame, TestFailed, TestUndecided, NoBattery, BatteryLength}
 use Rattle.commands.specs.Text.{Text, IsUnread, IsUnwritten}
 use Rattle.gbkeep.specs.Request.{GivesInputs, HasAddress, HasDevice, HasScript, IsCompared, IsGameRefused, IsRecordingRefused, IsTestDecided, IsWithoutBattery, IsOtherLength}
 use Rattle.gbkeep.specs.Program.{Exchange, HasEnded, HasLine, IsDebugRefused, IsRecordRefused, IsRefused, IsRefusedReading, IsStreamRefused, IsTrueOf, line_of, status_of}
@@ -74,6 +74,7 @@ unread_by request (Recording fault) run unread is why told = refused_by request 
 unread_by request (Behind count) run unread is why told = refused_by request (Behind count) run refl (elsewhere (λ r. IsCompared r (RecordingBehind count) run.output.before run.output.since) (λ cart address count no. no) request is) why told
 unread_by request (Ahead count) run unread is why told = absurd is
 unread_by request Differ run unread is why told = refused_by request Differ run refl (elsewhere (λ r. IsCompared r MachinesDiffer run.output.before run.output.since) (λ cart address count no. no) request is) why told
+unread_by request OtherRecording run unread is why told = absurd is
 unread_by request RecordedGame run unread is why told = refused_by request RecordedGame run refl (elsewhere (λ r. GivesInputs r) (λ cart address count no. no) request is.0) why told
 unread_by request TestFailed run unread is why told = refused_by request TestFailed run refl (elsewhere (λ r. IsTestDecided r Failed run.output.before run.output.since) (λ cart address count no. no) request is) why told
 unread_by request TestUndecided run unread is why told = refused_by request TestUndecided run refl (elsewhere (λ r. IsTestDecided r Undecided run.output.before run.output.since) (λ cart address count no. no) request is) why told
@@ -97,6 +98,7 @@ stream_status (Recording fault) input output is = absurd is
 stream_status (Behind count) input output is = absurd is
 stream_status (Ahead count) input output is = absurd is
 stream_status Differ input output is = absurd is
+stream_status OtherRecording input output is = absurd is
 stream_status RecordedGame input output is = refl
 stream_status TestFailed input output is = absurd is
 stream_status TestUndecided input output is = absurd is
@@ -120,6 +122,7 @@ record_status (Recording fault) input output is = refl
 record_status (Behind count) input output is = refl
 record_status (Ahead count) input output is = refl
 record_status Differ input output is = refl
+record_status OtherRecording input output is = refl
 record_status RecordedGame input output is = absurd is
 record_status TestFailed input output is = absurd is
 record_status TestUndecided input output is = absurd is
@@ -143,6 +146,7 @@ debug_status save (Recording fault) input output is = absurd is
 debug_status save (Behind count) input output is = absurd is
 debug_status save (Ahead count) input output is = absurd is
 debug_status save Differ input output is = absurd is
+debug_status save OtherRecording input output is = absurd is
 debug_status save RecordedGame input output is = absurd is
 debug_status save TestFailed input output is = absurd is
 debug_status save TestUndecided input output is = absurd is

@@ -6,6 +6,7 @@ use Rattle.sector_device.specs.FileDevice.{file_disk}
 use Rattle.sector_device.specs.declared.file.FileDevice.{FileDevice}
 use Rattle.replaying.specs.Verifying.{IsOfVerifying, IsVerifyCause}
 use Rattle.replaying.specs.declared.error.VerifyError.{VerifyError}
+use Rattle.replaying.specs.declared.verifying.Limits.{Limits}
 use Rattle.replaying.specs.declared.error.VerifyError.TheVariants.{Save, Recording as Taped, Behind as IsBehind, Ahead as IsAhead, Memory as Lacked, Differ as Differing}
 use Rattle.commands.specs.declared.error.CommandError.TheVariants.{Verify}
 use Rattle.streaming.specs.declared.obeying.End.{End}
@@ -13,9 +14,10 @@ use Rattle.recorded_play.specs.Whole.{HasRecorded, IsRecordCause}
 use Rattle.recorded_play.specs.declared.error.RecordError.{RecordError}
 use Rattle.recorded_play.specs.declared.error.RecordError.TheVariants.{Session, Recording, Behind, Line, Input}
 use Rattle.playing.proofs.Telling.{keeps_same}
+use Rattle.recording_marks.specs.declared.text.Mark.{Mark}
 use Rattle.gbkeep.specs.declared.fault.Fault.{Fault}
-use Rattle.gbkeep.specs.declared.fault.Fault.TheVariants.{Cart as ACart, Memory as AMemory, File as AFile, Output as AnOutput, Address as AnAddress, Word as AWord, Device as ADevice, Script as AScript, Session as ASession, Line as ALine, Input as AnInput, Snapshot as ASnapshot, Recording as ARecording, Behind as ABehind, Ahead as AnAhead, Differ as ADiffer, RecordedGame as ARecordedGame, TestFailed as ATestFailed, TestUndecided as ATestUndecided, NoBattery as NoBatteryThere, BatteryLength as ABatteryLength}
-use Rattle.gbkeep.specs.Program.{IsNotOf, IsRecordRefused, fault_of_command}
+use Rattle.gbkeep.specs.declared.fault.Fault.TheVariants.{Cart as ACart, Memory as AMemory, File as AFile, Output as AnOutput, Address as AnAddress, Word as AWord, Device as ADevice, Script as AScript, Session as ASession, Line as ALine, Input as AnInput, Snapshot as ASnapshot, Recording as ARecording, Behind as ABehind, Ahead as AnAhead, Differ as ADiffer, OtherRecording as AnOtherRecording, RecordedGame as ARecordedGame, TestFailed as ATestFailed, TestUndecided as ATestUndecided, NoBattery as NoBatteryThere, BatteryLength as ABatteryLength}
+use Rattle.gbkeep.specs.Program.{IsNotMarked, IsNotOf, IsRecordRefused, fault_of_command}
 use Rattle.gbkeep.specs.Request.{IsNotBelonging, IsRecordedTo, record_limits}
 
 -- what a recorded play that was refused is for the program
@@ -43,15 +45,46 @@ module _ (rom : List ℕ) (accepted : IsAccepted rom) (save now_save recording n
   record_refused Input (inl it) = absurd it.0.kind
   record_refused Input (inr it) = recorded_to _ it
 
+-- a game that was not taken up, since its mark knows another recording
+pub not_marked : (said : Option Mark) (tape : FileDevice) (input output : Option (List ℕ)) (fault : Fault) → IsNotMarked said (file_disk tape) fault
+    → IsRecordRefused fault (record { before = input; since = input }) (record { before = output; since = output })
+not_marked said tape input output AnOtherRecording cause = (refl, keeps_same output, (said, (tape, cause)))
+not_marked said tape input output AMemory cause = (refl, keeps_same output)
+not_marked said tape input output (ADevice why) cause = (refl, keeps_same output)
+not_marked said tape input output (ASession why) cause = absurd cause
+not_marked said tape input output (ARecording why) cause = absurd cause
+not_marked said tape input output (ABehind count) cause = absurd cause
+not_marked said tape input output (AnAhead count) cause = absurd cause
+not_marked said tape input output ADiffer cause = absurd cause
+not_marked said tape input output (ACart why) cause = absurd cause
+not_marked said tape input output AFile cause = absurd cause
+not_marked said tape input output AnOutput cause = absurd cause
+not_marked said tape input output AnAddress cause = absurd cause
+not_marked said tape input output AWord cause = absurd cause
+not_marked said tape input output (AScript why) cause = absurd cause
+not_marked said tape input output (ALine number) cause = absurd cause
+not_marked said tape input output AnInput cause = absurd cause
+not_marked said tape input output ASnapshot cause = absurd cause
+not_marked said tape input output ARecordedGame cause = absurd cause
+not_marked said tape input output ATestFailed cause = absurd cause
+not_marked said tape input output ATestUndecided cause = absurd cause
+not_marked said tape input output NoBatteryThere cause = absurd cause
+not_marked said tape input output (ABatteryLength found needed) cause = absurd cause
+
+-- what is looked at, but for how long a game is replayed
+abbrev pub limits_of : ℕ → Limits
+limits_of replayed = record { beyond = 3200; replayed = replayed }
+
 -- why a recording is not taken for that of a game
-pub not_of : (rom : List ℕ) (game tape : DiskState) (why : VerifyError)
-    → (game.honest → tape.honest → IsVerifyCause (Some record_limits) rom game tape why) → IsOfVerifying (Some record_limits) why → IsNotOf rom game tape (fault_of_command (Verify why))
-not_of rom game tape (Save why) cause kind = (cause, kind)
-not_of rom game tape (Taped why) cause kind = cause
-not_of rom game tape (IsBehind count) cause kind = cause
-not_of rom game tape (IsAhead count) cause kind = cause
-not_of rom game tape Lacked cause kind = tt
-not_of rom game tape Differing cause kind = cause
+pub not_of : (rom : List ℕ) (game tape : DiskState) (replayed : ℕ) (why : VerifyError)
+    → (game.honest → tape.honest → IsVerifyCause (Some (limits_of replayed)) rom game tape why) → IsOfVerifying (Some (limits_of replayed)) why
+    → IsNotOf rom game tape (fault_of_command (Verify why))
+not_of rom game tape replayed (Save why) cause kind = (cause, kind)
+not_of rom game tape replayed (Taped why) cause kind = cause
+not_of rom game tape replayed (IsBehind count) cause kind = cause
+not_of rom game tape replayed (IsAhead count) cause kind = cause
+not_of rom game tape replayed Lacked cause kind = tt
+not_of rom game tape replayed Differing cause kind = cause
 
 module _ (rom : List ℕ) (accepted : IsAccepted rom) (game tape : FileDevice) (input output : Option (List ℕ)) where
   unbegun : (why : VerifyError) → ((file_disk game).honest → (file_disk tape).honest → IsVerifyCause (Some record_limits) rom (file_disk game) (file_disk tape) why)
@@ -77,6 +110,7 @@ module _ (rom : List ℕ) (accepted : IsAccepted rom) (game tape : FileDevice) (
   not_belonging (ALine number) cause = absurd cause
   not_belonging AnInput cause = absurd cause
   not_belonging ASnapshot cause = absurd cause
+  not_belonging AnOtherRecording cause = absurd cause
   not_belonging ARecordedGame cause = absurd cause
   not_belonging ATestFailed cause = absurd cause
   not_belonging ATestUndecided cause = absurd cause

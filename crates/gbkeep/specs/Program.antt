@@ -1,5 +1,5 @@
 -- The statuses of the program: 0 done, 1 refused, 2 words not understood.
-use Rattle.std.specs.Prelude.{◌≡◌, ◌≤◌, ◌↔◌, ◌≢◌, ◌⊎◌, ℕ, List, length, codes, Option, None, Some, Result, Ok, Err, ⊤, Bool, true, false}
+use Rattle.std.specs.Prelude.{◌≡◌, ◌≤◌, ◌↔◌, ◌≢◌, ◌⊎◌, ℕ, List, length, codes, Option, None, Some, Result, Ok, Err, ⊤, Bool, true, false, IfSome}
 use Rattle.std.specs.Borrow.{Bor}
 use Rattle.std.specs.Io.KnownBytes.{Appends, Keeps}
 use Rattle.exact_text.specs.Written.{AppendsProperPrefix}
@@ -31,10 +31,17 @@ use Rattle.replaying.specs.Verifying.{IsVerifyCause}
 use Rattle.replaying.specs.declared.error.VerifyError.TheVariants.{Save as NoSave, Recording as NoRecording, Behind as RecordingBehind, Ahead as RecordingAhead, Memory as NoMemory, Differ as MachinesDiffer}
 use Rattle.streaming.specs.declared.obeying.End.TheVariants.{Whole, Wrong as WrongLine, Failed as FailedRead, Damaged as DamagedBytes, NoMemory as LackedMemory}
 use Rattle.streaming.specs.declared.error.StreamError.TheVariants.{Session as StreamSession, Line as StreamLine, Input as StreamInput, Snapshot as StreamSnapshot, Memory as StreamMemory}
-use Rattle.gbkeep.specs.declared.fault.Fault.TheVariants.{Cart, Memory, File, Output, Address, Word, Device, Script, Session, Line, Input, Snapshot, Recording, Behind, Ahead, Differ, RecordedGame, TestFailed, TestUndecided, NoBattery, BatteryLength}
+use Rattle.gbkeep.specs.declared.fault.Fault.TheVariants.{Cart, Memory, File, Output, Address, Word, Device, Script, Session, Line, Input, Snapshot, Recording, Behind, Ahead, Differ, OtherRecording, RecordedGame, TestFailed, TestUndecided, NoBattery, BatteryLength}
 use Rattle.script.specs.Script.{IsRefused as IsScriptRefused}
+use Rattle.input_entries.specs.Inputs.{inputs}
+use Rattle.input_entries.specs.declared.Entry.{Entry}
+use Rattle.recording.specs.Recorded.{entries}
+use Rattle.recording_marks.specs.Digests.{IsKnown, IsOther, digest_of}
+use Rattle.recording_marks.specs.declared.knowing.Known.{Known}
+use Rattle.recording_marks.specs.declared.text.Mark.{Mark}
+use Rattle.recording_marks.specs.declared.text.Mark.TheVariants.{Remembered}
 use Rattle.commands.specs.Text.{Text, IsUnread, IsUnwritten}
-use Rattle.gbkeep.specs.Request.{HasAddress, HasDevice, HasScript, IsDone, IsCompared, GivesInputs, IsGameRefused, IsMemoryRefused, IsOutputRefused, IsRecordingRefused, IsTestDecided, IsWithoutBattery, IsOtherLength, IsScriptOf, imports_to_battery_name, IsStreamStopped, IsStreamedTo, IsNotBelonging, IsRecordStopped, IsRecordedTo, record_limits, IsDebugged, IsDebugStopped, IsDebugUnbegun, IsDebugNotTakenUp}
+use Rattle.gbkeep.specs.Request.{HasAddress, HasDevice, HasScript, OfAFile, IsDone, IsCompared, GivesInputs, IsGameRefused, IsMemoryRefused, IsOutputRefused, IsRecordingRefused, IsTestDecided, IsWithoutBattery, IsOtherLength, IsScriptOf, imports_to_battery_name, IsStreamStopped, IsStreamedTo, IsNotBelonging, IsRecordStopped, IsRecordedTo, record_limits, IsDebugged, IsDebugStopped, IsDebugUnbegun, IsDebugNotTakenUp}
 
 abbrev pub status_of : Fault → ℕ
 status_of (Cart fault) = 1
@@ -53,6 +60,7 @@ status_of (Recording fault) = 1
 status_of (Behind count) = 1
 status_of (Ahead count) = 1
 status_of Differ = 1
+status_of OtherRecording = 1
 status_of RecordedGame = 1
 status_of TestFailed = 1
 status_of TestUndecided = 1
@@ -117,6 +125,25 @@ IsNotOf rom game tape (Ahead count) = game.honest → tape.honest → IsVerifyCa
 IsNotOf rom game tape Differ = game.honest → tape.honest → IsVerifyCause (Some record_limits) rom game tape MachinesDiffer
 IsNotOf rom game tape fault = ⊥
 
+-- what a mark knows of the recording, where it does
+abbrev pub known_by : Option Mark → Option Known
+known_by (Some (Remembered known)) = Some known
+known_by said = None
+
+-- a game with so many inputs is taken up with this recording: its first inputs are those that the mark knew, and this is what the mark is
+-- to know of it from now on
+pub record IsRemembered (said : Option Mark) (count : ℕ) (known : Known) (tape : List Entry) : Type 0 where
+  pub was : IfSome (known_by said) (λ before. IsKnown before tape)
+  pub count_is : known.count ≡ count
+  pub digest_is : known.digest ≡ digest_of count tape
+
+-- why a recording is not taken for the one that the mark knows
+abbrev pub IsNotMarked : (said : Option Mark) → (tape : DiskState) → Fault → Type 0
+IsNotMarked said tape Memory = ⊤
+IsNotMarked said tape (Device fault) = fault ≡ FailedDevice
+IsNotMarked said tape OtherRecording = tape.honest → IsOther (known_by said) (inputs (entries tape.sectors))
+IsNotMarked said tape fault = ⊥
+
 -- its line on standard error; None for a fault of the cartridge, of a script, of a line of the input, or with a number, and of a game that
 -- is damaged, whose text no definition gives
 abbrev pub line_of : Fault → Option (List ℕ)
@@ -154,6 +181,7 @@ line_of (Recording TapeBroken) = Some (codes "gbkeep: broken, open it again\n")
 line_of (Behind count) = None
 line_of (Ahead count) = None
 line_of Differ = Some (codes "gbkeep: machines differ\n")
+line_of OtherRecording = Some (codes "gbkeep: other recording\n")
 line_of RecordedGame = Some (codes "gbkeep: recorded game: play it by record\n")
 line_of TestFailed = Some (codes "gbkeep: test failed\n")
 line_of TestUndecided = Some (codes "gbkeep: test undecided\n")
@@ -253,6 +281,8 @@ IsRecordRefused (Recording fault) input output = IsRecordStopped (RecordRecordin
 IsRecordRefused (Behind count) input output = IsRecordStopped (RecordBehind count) input output ⊎ IsNotBelonging (RecordingBehind count) input output
 IsRecordRefused (Ahead count) input output = IsNotBelonging (RecordingAhead count) input output
 IsRecordRefused Differ input output = IsNotBelonging MachinesDiffer input output
+IsRecordRefused OtherRecording input output = IsUnread input × IsUnwritten output
+    × ((said : Option Mark) × OfAFile (λ tape. tape.honest → IsOther (known_by said) (inputs (entries tape.sectors))))
 IsRecordRefused fault input output = ⊥
 
 -- a recorded play was done or refused

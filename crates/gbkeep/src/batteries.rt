@@ -16,7 +16,6 @@ use crate::fault::Fault;
 use crate::files::{MOST_BATTERY, MOST_ROM, file_bytes};
 use crate::games::sectors_or;
 use crate::making::{MakingDevice, durable_file, new_device};
-use crate::marks::unmark;
 use arrayvec::ArrayString;
 use battery_files::{ExportError, ImportError, export_battery, machine_with_battery};
 use cartridge::Cartridge;
@@ -110,8 +109,7 @@ pub(crate) fn import<R: Files<File = File> + AllocGlobal, O: Output>(
     let MakingDevice { making, device } = new_device(rt, save, sectors)?;
     match begin_import(rt.alloc(), device, &cartridge, battery.as_slice()) {
         Ok(session) => {
-            unmark(rt, save);
-            let told = tell_begun(rt, making, out);
+            let told = tell_begun(rt, making, Some(save), out);
             // it holds the file's lock until the file has its name
             drop(session);
             told

@@ -7,15 +7,17 @@ ghost use Rattle.gbkeep.specs.Program.{IsOutputFault};
 
 use crate::fault::Fault;
 use crate::making::Making;
+use crate::marks::unmark;
 use exact_text::{Output, write_whole};
 use sector_device::DeviceFault;
 use std::fs::File;
 use std::rt::Files;
 
-/// Gives a file that is whole its name, and then writes `begun 0`.
+/// Gives a file that is whole its name, takes away the mark of a game that stood there before, if it is a game, and then writes `begun 0`.
 pub(crate) fn tell_begun<R: Files<File = File> + AllocGlobal, O: Output>(
     rt: &R,
     making: Making<'_>,
+    game: Option<&str>,
     out: &mut O,
 ) -> Result<(), Fault>
     ensures written { OnOk result (Appends (O.contents out.old) (O.contents out.new) begun_line) }
@@ -24,6 +26,9 @@ pub(crate) fn tell_begun<R: Files<File = File> + AllocGlobal, O: Output>(
 {
     if making.finish(rt).is_err() {
         return Err(Fault::Device(DeviceFault::Device));
+    }
+    if let Some(save) = game {
+        unmark(rt, save);
     }
     match write_whole(out, b"begun 0\n") {
         Ok(()) => Ok(()),

@@ -50,6 +50,8 @@ pub(crate) enum Fault {
     Ahead(u64),
     /// The game is not the one after the recorded inputs.
     Differ,
+    /// The recording is another one than the game's mark knows.
+    OtherRecording,
     /// The game is recorded, so that only `record` may give it inputs.
     RecordedGame,
     /// A test ROM says that it has failed.
@@ -139,6 +141,7 @@ pub(crate) fn report<E: Output>(fault: Fault, err: &mut E) -> u8
         Fault::Behind(count) => write_behind_line(count, err),
         Fault::Ahead(count) => write_ahead_line(count, err),
         Fault::Differ => write_line("gbkeep: machines differ\n", err),
+        Fault::OtherRecording => write_line("gbkeep: other recording\n", err),
         Fault::Snapshot => write_line("gbkeep: damaged snapshot\n", err),
         Fault::RecordedGame => write_line("gbkeep: recorded game: play it by record\n", err),
         Fault::TestFailed => write_line("gbkeep: test failed\n", err),

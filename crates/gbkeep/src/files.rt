@@ -3,7 +3,7 @@
 ghost use Rattle.std.specs.Prelude.{◌≡◌, ◌⊎◌, IfErr};
 
 use crate::fault::Fault;
-use std::fs::{self, File, OpenOptions, TryLockError};
+use std::fs::{self, File, Metadata, OpenOptions, TryLockError};
 use std::io::{self, ErrorKind, Read};
 use std::os::unix::fs::{FileExt, FileTypeExt, MetadataExt};
 use std::rt::Files;
@@ -17,7 +17,8 @@ pub(crate) const MOST_SCRIPT: u64 = 0x10_0000;
 /// A battery file is read up to this many bytes and one.
 pub(crate) const MOST_BATTERY: u64 = 0x10_0000;
 
-/// The bytes of the file at this path, and of a longer one the first `most` and one more.
+/// The bytes of the file at this path, and of a longer one the first `most` and one more. A file that does not give what its length says is
+/// refused: no more is read than that, since one in which the system tells of itself may wait for ever.
 pub(crate) fn file_bytes<R: Files<File = File> + AllocGlobal>(
     rt: &R,
     path: &str,
@@ -29,11 +30,27 @@ pub(crate) fn file_bytes<R: Files<File = File> + AllocGlobal>(
     let Ok(file) = File::open(rt, path) else {
         return Err(Fault::File);
     };
+    let Ok(found) = file.metadata() else {
+        return Err(Fault::File);
+    };
+    if found.len() == 0 && is_of_the_system(rt, &found) {
+        return Err(Fault::File);
+    }
+    let wanted = found.len().min(most.saturating_add(1));
     let mut bytes = Vec::new(rt.alloc());
-    match file.take(most.saturating_add(1)).read_to_end(&mut bytes) {
-        Ok(_) => Ok(bytes),
+    match file.take(wanted).read_to_end(&mut bytes) {
+        Ok(_) if bytes.len() as u64 == wanted => Ok(bytes),
+        Ok(_) => Err(Fault::File),
         Err(error) if error.kind() == ErrorKind::OutOfMemory => Err(Fault::Memory),
         Err(_) => Err(Fault::File),
+    }
+}
+
+/// Whether the file is one of those below `/proc`, whose length says nothing.
+fn is_of_the_system<R: Files<File = File>>(rt: &R, found: &Metadata) -> bool {
+    match (fs::metadata(rt, "/proc"), fs::metadata(rt, "/")) {
+        (Ok(system), Ok(root)) => system.dev() != root.dev() && found.dev() == system.dev(),
+        _ => false,
     }
 }
 
@@ -47,8 +64,8 @@ pub(crate) fn not_a_pipe<R: Files<File = File>>(rt: &R, path: &str) -> Result<()
     }
 }
 
-/// How a plain PGM begins.
-const PICTURE: [u8; 2] = *b"P2";
+/// How a picture of `frame` begins.
+const PICTURE: [u8; 13] = *b"P2\n160 144\n3\n";
 
 /// Opens the file of a picture: makes it, or empties it. Refused as it was is a file that is one of those to be kept, by whatever name,
 /// that another open file holds, or that has anything else than a picture.
@@ -84,7 +101,7 @@ fn emptied<R: Files<File = File>>(rt: &R, path: &str, kept: [&str; 2]) -> io::Re
     }
     // a pipe or a terminal has no length
     if found.len() > 0 {
-        let mut first = [0; 2];
+        let mut first = [0; 13];
         file.read_exact_at(&mut first, 0)?;
         if first != PICTURE {
             return Err(ErrorKind::AlreadyExists.into());

@@ -7,7 +7,7 @@ use crate::begun::tell_begun;
 use crate::fault::Fault;
 use crate::files::{MOST_ROM, MOST_SCRIPT, emptied_file, file_bytes, not_a_pipe};
 use crate::making::{MakingDevice, new_device};
-use crate::marks::{unless_recorded, unmark};
+use crate::marks::unless_recorded;
 use cartridge::Cartridge;
 use command_line::Request;
 use commands::{play_and_draw, play_script, show_lines, stream_play, trace_lines};
@@ -41,8 +41,7 @@ pub(crate) fn new<R: Files<File = File> + AllocGlobal, O: Output>(
     let MakingDevice { making, device } = new_device(rt, save, sectors)?;
     match new_game(rt.alloc(), device, &cartridge) {
         Ok(session) => {
-            unmark(rt, save);
-            let told = tell_begun(rt, making, out);
+            let told = tell_begun(rt, making, Some(save), out);
             // it holds the file's lock until the file has its name
             drop(session);
             told

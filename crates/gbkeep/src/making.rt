@@ -5,7 +5,7 @@ ghost use Rattle.sector_device.specs.FileDevice.{file_disk};
 
 use crate::fault::Fault;
 use sector_device::{DeviceFault, FileDevice};
-use std::fs::{self, File, OpenOptions, TryLockError};
+use std::fs::{self, File, Metadata, OpenOptions, TryLockError};
 use std::io::{self, ErrorKind, Write};
 use std::os::unix::fs::{MetadataExt, OpenOptionsExt};
 use std::path::Path;
@@ -27,6 +27,28 @@ pub(crate) struct Making<'a> {
     keeper: File,
     /// The empty file was made here.
     is_new: bool,
+}
+
+/// A file, whatever its name.
+#[derive(Clone, Copy)]
+struct FileNumber {
+    device: u64,
+    inode: u64,
+}
+
+fn number_of(found: &Metadata) -> FileNumber {
+    FileNumber {
+        device: found.dev(),
+        inode: found.ino(),
+    }
+}
+
+/// Whether that file has this name.
+fn is_named<R: Files<File = File>>(rt: &R, path: &str, file: FileNumber) -> bool {
+    match fs::symlink_metadata(rt, path) {
+        Ok(named) => named.dev() == file.device && named.ino() == file.inode,
+        Err(_) => false,
+    }
 }
 
 /// A device over a file that is being made.
@@ -64,23 +86,28 @@ impl<'a> Making<'a> {
         self.part.as_str()
     }
 
-    /// Gives the file, which is whole and synced, its name, and makes that durable. Where that fails, no file is left behind.
+    /// Gives the file, which is whole and synced, its name, and makes that durable. Where that fails, it is taken away again; another one that
+    /// was moved to its name meanwhile stays.
     pub(crate) fn finish<R: Files<File = File>>(self, rt: &R) -> io::Result<()> {
-        if let Err(fault) = self.rename(rt) {
-            self.give_up(rt);
-            return Err(fault);
-        }
+        let made = match self.rename(rt) {
+            Ok(made) => made,
+            Err(fault) => {
+                self.give_up(rt);
+                return Err(fault);
+            }
+        };
         let synced = sync_folder(rt, self.path);
-        if synced.is_err() {
+        if synced.is_err() && is_named(rt, self.path, made) {
             let _ = fs::remove_file(rt, self.path);
         }
         synced
     }
 
-    fn rename<R: Files<File = File>>(&self, rt: &R) -> io::Result<()> {
+    fn rename<R: Files<File = File>>(&self, rt: &R) -> io::Result<FileNumber> {
         let part = fs::symlink_metadata(rt, self.part())?;
         if self.keeps_name(rt) && self.keeper.metadata()?.uid() == part.uid() {
-            fs::rename(rt, self.part(), self.path)
+            fs::rename(rt, self.part(), self.path)?;
+            Ok(number_of(&part))
         } else {
             Err(ErrorKind::AlreadyExists.into())
         }
@@ -88,11 +115,9 @@ impl<'a> Making<'a> {
 
     /// Whether the name is that of the file that keeps it, and that is still empty.
     fn keeps_name<R: Files<File = File>>(&self, rt: &R) -> bool {
-        match (self.keeper.metadata(), fs::symlink_metadata(rt, self.path)) {
-            (Ok(held), Ok(named)) => {
-                held.len() == 0 && held.dev() == named.dev() && held.ino() == named.ino()
-            }
-            _ => false,
+        match self.keeper.metadata() {
+            Ok(held) => held.len() == 0 && is_named(rt, self.path, number_of(&held)),
+            Err(_) => false,
         }
     }
 
@@ -172,6 +197,44 @@ pub(crate) fn written_file<R: Files<File = File>>(
         .open(rt, path)?;
     file.write_all(bytes)?;
     file.sync_all()
+}
+
+/// Makes a file of these bytes in the place of the one of this name, and makes that durable. At each moment the old file stands there or the
+/// new one, whole.
+pub(crate) fn replaced_file<R: Files<File = File> + AllocGlobal>(
+    rt: &R,
+    path: &str,
+    bytes: &[u8],
+) -> Result<(), Fault>
+    ensures { IfErr result (λ fault. (fault ≡ Fault.Memory) ⊎ (fault ≡ Fault.File)) }
+{
+    for number in 0..MOST_NAMES {
+        let Ok(part) = format!(in rt.alloc(); "{path}.{number}.part") else {
+            return Err(Fault::Memory);
+        };
+        match written_file(rt, part.as_str(), bytes) {
+            Ok(()) => return renamed_file(rt, part.as_str(), path),
+            Err(fault) if fault.kind() == ErrorKind::AlreadyExists => {}
+            Err(_) => {
+                let _ = fs::remove_file(rt, part.as_str());
+                return Err(Fault::File);
+            }
+        }
+    }
+    Err(Fault::File)
+}
+
+fn renamed_file<R: Files<File = File>>(rt: &R, part: &str, path: &str) -> Result<(), Fault>
+    ensures { IfErr result (λ fault. fault ≡ Fault.File) }
+{
+    if fs::rename(rt, part, path).is_err() {
+        let _ = fs::remove_file(rt, part);
+        return Err(Fault::File);
+    }
+    match sync_folder(rt, path) {
+        Ok(()) => Ok(()),
+        Err(_) => Err(Fault::File),
+    }
 }
 
 /// Makes the entries of the folder of this file durable.

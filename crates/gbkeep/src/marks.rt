@@ -4,16 +4,14 @@ ghost use Rattle.std.specs.Prelude.{◌≡◌, ◌⊎◌, IfErr};
 
 use crate::fault::Fault;
 use crate::files::file_bytes;
-use crate::making::{sync_folder, written_file};
+use crate::making::replaced_file;
+use recording_marks::{Known, Mark, known_line, read_mark};
 use std::alloc::AllocError;
 use std::fs::{self, File};
 use std::io::ErrorKind;
 use std::rt::Files;
 
-/// The second line of a mark, which is made by `record` alone.
-const SECOND_LINE: &[u8] = b"\ngbkeep record\n";
-
-/// A mark is read up to this many bytes and one: the longest name of a file, and its second line.
+/// A mark is read up to this many bytes and one: the longest name of a file, and its other lines.
 const MOST_MARK: u64 = 8_192;
 
 /// Refuses a game that has a mark.
@@ -32,21 +30,69 @@ pub(crate) fn unless_recorded<R: Files<File = File> + AllocGlobal>(
     }
 }
 
-/// Marks a game as recorded there, durably, where it has no mark.
+/// What was found of the mark of a game.
+#[derive(Clone, Copy)]
+pub(crate) struct FoundMark {
+    /// What it says, if there is one.
+    pub(crate) said: Option<Mark>,
+    /// It has the recording's name as it is given.
+    pub(crate) names_it: bool,
+}
+
+/// Looks for the mark of a game. Anything else that stands there is refused.
+pub(crate) fn found_mark<R: Files<File = File> + AllocGlobal>(
+    rt: &R,
+    save: &str,
+    recording: &str,
+) -> Result<FoundMark, Fault>
+    ensures { IfErr result (λ fault. (fault ≡ Fault.File) ⊎ (fault ≡ Fault.Memory)) }
+{
+    let Ok(mark) = mark_of(rt, save) else {
+        return Err(Fault::Memory);
+    };
+    match fs::symlink_metadata(rt, mark.as_str()) {
+        Ok(_) => {}
+        Err(fault) if fault.kind() == ErrorKind::NotFound => {
+            return Ok(FoundMark {
+                said: None,
+                names_it: false,
+            });
+        }
+        Err(_) => return Err(Fault::File),
+    }
+    let lines = file_bytes(rt, mark.as_str(), MOST_MARK)?;
+    let Some(said) = read_mark(lines.as_slice()) else {
+        return Err(Fault::File);
+    };
+    let names_it = match lines.as_slice().strip_prefix(recording.as_bytes()) {
+        Some(rest) => rest.starts_with(b"\ngbkeep record\n"),
+        None => false,
+    };
+    Ok(FoundMark {
+        said: Some(said),
+        names_it,
+    })
+}
+
+/// Marks a game as recorded there, durably, with what is known of the recording. A mark that says so stays as it is.
 pub(crate) fn mark<R: Files<File = File> + AllocGlobal>(
     rt: &R,
     save: &str,
     recording: &str,
+    known: &Known,
 ) -> Result<(), Fault>
     ensures { IfErr result (λ fault. (fault ≡ Fault.File) ⊎ (fault ≡ Fault.Memory)) }
 {
-    let (Ok(mark), Ok(lines)) = (mark_of(rt, save), lines_of(rt, recording)) else {
+    let (Ok(mark), Ok(lines)) = (mark_of(rt, save), lines_of(rt, recording, known)) else {
         return Err(Fault::Memory);
     };
-    match written_file(rt, mark.as_str(), lines.as_bytes()) {
-        Err(fault) if fault.kind() == ErrorKind::AlreadyExists => Ok(()),
-        Ok(()) if sync_folder(rt, mark.as_str()).is_ok() => Ok(()),
-        _ => Err(Fault::File),
+    match file_bytes(rt, mark.as_str(), MOST_MARK) {
+        Ok(found) if found.as_slice() == lines.as_bytes() => Ok(()),
+        Err(Fault::Memory) => Err(Fault::Memory),
+        _ => match replaced_file(rt, mark.as_str(), lines.as_bytes()) {
+            Ok(()) => Ok(()),
+            Err(fault) => Err(fault),
+        },
     }
 }
 
@@ -58,7 +104,7 @@ pub(crate) fn unmark<R: Files<File = File> + AllocGlobal>(rt: &R, save: &str) {
     let Ok(lines) = file_bytes(rt, mark.as_str(), MOST_MARK) else {
         return;
     };
-    if lines.as_slice().ends_with(SECOND_LINE) {
+    if read_mark(lines.as_slice()).is_some() {
         let _ = fs::remove_file(rt, mark.as_str());
     }
 }
@@ -75,6 +121,8 @@ fn marked<R: AllocGlobal>(rt: &R, save: &str) -> Result<String, AllocError> {
     format!(in rt.alloc(); "{save}.recorded")
 }
 
-fn lines_of<R: AllocGlobal>(rt: &R, recording: &str) -> Result<String, AllocError> {
-    format!(in rt.alloc(); "{recording}\ngbkeep record\n")
+fn lines_of<R: AllocGlobal>(rt: &R, recording: &str, known: &Known) -> Result<String, AllocError> {
+    let line = known_line(known);
+    let line = line.as_str();
+    format!(in rt.alloc(); "{recording}\ngbkeep record\n{line}")
 }

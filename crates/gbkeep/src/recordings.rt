@@ -1,14 +1,16 @@
 //! Recordings in files.
 
-ghost use Rattle.std.specs.Prelude.{◌≡◌, true, IfErr};
+ghost use Rattle.std.specs.Prelude.{◌≡◌, true, IfErr, IfOk};
 ghost use Rattle.sector_device.specs.FileDevice.{file_disk};
-ghost use Rattle.gbkeep.specs.Program.{IsOutputFault, IsServed, IsRecordServed, IsPairFault, IsNotOf};
+ghost use Rattle.gbkeep.specs.Program.{IsOutputFault, IsServed, IsRecordServed, IsPairFault, IsNotOf, IsNotMarked, IsRemembered, known_by};
+ghost use Rattle.input_entries.specs.Inputs.{inputs};
+ghost use Rattle.recording.specs.Recorded.{entries};
 
 use crate::begun::tell_begun;
 use crate::fault::Fault;
 use crate::files::{MOST_ROM, file_bytes};
 use crate::making::{MakingDevice, new_device};
-use crate::marks::mark;
+use crate::marks::{FoundMark, found_mark, mark};
 use cartridge::Cartridge;
 use command_line::Request;
 use commands::{CommandError, recorded_lines, verify_line};
@@ -16,6 +18,7 @@ use exact_text::Output;
 use input_lines::LineInput;
 use recorded_play::{RecordError, record as record_play};
 use recording::{RecordingFault, create_recording};
+use recording_marks::{Known, Mark, MarkFault, known_of};
 use replaying::{Limits, verify as verify_within};
 use sector_device::{DeviceFault, FileDevice};
 use std::alloc::Global;
@@ -27,12 +30,11 @@ use std::rt::Files;
 /// The fewest sectors of a recording: one for its head, and one for inputs.
 const FEWEST_SECTORS: u32 = 2;
 
-/// What `record` looks at before it takes a game up. A power cut leaves the recording ahead by what one save holds, at most; and to replay
-/// more inputs than these would take longer than a second.
-const LIMITS: Limits = Limits {
-    beyond: 3_200,
-    replayed: 20_000,
-};
+/// A power cut leaves the recording ahead by what one save holds, at most.
+const MOST_BEYOND: u64 = 3_200;
+
+/// `record` replays no longer game before it takes it up, unless it is in doubt: that would take longer than a second.
+const MOST_REPLAYED: u64 = 20_000;
 
 /// Makes a file of so many sectors, and an empty recording in it; the file gets its name once it is one. Where that fails no file is left
 /// behind. A recording that is begun stays, also where its line can't be written.
@@ -54,7 +56,7 @@ pub(crate) fn new_recording<R: Files<File = File> + AllocGlobal, O: Output>(
     }
     let MakingDevice { making, device } = new_device(rt, recording, u64::from(sectors))?;
     match create_recording(rt.alloc(), device, cartridge.digest()) {
-        Ok(_recording) => tell_begun(rt, making, out),
+        Ok(_recording) => tell_begun(rt, making, None, out),
         Err(refused) => {
             making.give_up(rt);
             Err(Fault::Recording(refused.why))
@@ -63,8 +65,8 @@ pub(crate) fn new_recording<R: Files<File = File> + AllocGlobal, O: Output>(
 }
 
 /// Takes up the game in a file with its recording in another one, and obeys the lines of the input as they come, with all answers on
-/// `out`. Each save writes the recording first. A recording that can't be that of the game is refused before either is written to, and the
-/// game is marked as recorded before it is given anything.
+/// `out`. Each save writes the recording first. A recording that can't be that of the game, or is another one than its mark knows, is refused
+/// before either is written to, and the game is marked as recorded, there, before it is given anything.
 pub(crate) fn record<R: Files<File = File> + AllocGlobal, I: LineInput, O: Output>(
     rt: &R,
     cart: &str,
@@ -83,15 +85,24 @@ pub(crate) fn record<R: Files<File = File> + AllocGlobal, I: LineInput, O: Outpu
     let rom = file_bytes(rt, cart, MOST_ROM)?;
     let pair = game_and_recording(rt, save, recording)?;
     let cartridge = Cartridge::read(rom)?;
-    let pair = match belonging(rt.alloc(), pair, &cartridge) {
-        Ok(pair) => pair,
+    let game = match belonging(rt.alloc(), pair, &cartridge, MOST_REPLAYED) {
+        Ok(game) => game,
         Err(fault) => return Err(fault),
     };
-    mark(rt, save, recording)?;
+    let found = found_mark(rt, save, recording)?;
+    let game = match certain(rt.alloc(), game, &cartridge, &found) {
+        Ok(game) => game,
+        Err(fault) => return Err(fault),
+    };
+    let game = match marked(rt.alloc(), game, &cartridge, found.said) {
+        Ok(game) => game,
+        Err(fault) => return Err(fault),
+    };
+    mark(rt, save, recording, &game.known)?;
     match record_play(
         rt.alloc(),
-        pair.save,
-        pair.recording,
+        game.save,
+        game.recording,
         &cartridge,
         input,
         out,
@@ -111,16 +122,113 @@ pub(crate) fn record<R: Files<File = File> + AllocGlobal, I: LineInput, O: Outpu
 }
 
 /// A game and a recording that can be its own.
-fn belonging(alloc: Global, pair: Pair, cartridge: &Cartridge) -> Result<Pair, Fault>
+#[derive(Drop)]
+struct Compared {
+    save: FileDevice,
+    recording: FileDevice,
+    /// How many inputs the game has.
+    count: u64,
+}
+
+/// The machines of a longer game than is to be replayed are not compared.
+fn belonging(
+    alloc: Global,
+    pair: Pair,
+    cartridge: &Cartridge,
+    replayed: u64,
+) -> Result<Compared, Fault>
     ensures { IfErr result (IsNotOf cartridge.now (file_disk pair.save) (file_disk pair.recording)) }
 {
-    let found = verify_within(alloc, pair.save, pair.recording, cartridge, Some(LIMITS));
+    let limits = Limits {
+        beyond: MOST_BEYOND,
+        replayed,
+    };
+    let found = verify_within(alloc, pair.save, pair.recording, cartridge, Some(limits));
     match found.answer {
-        Ok(_) => Ok(Pair {
+        Ok(count) => Ok(Compared {
             save: found.save,
             recording: found.recording,
+            count,
         }),
         Err(why) => Err(Fault::from(CommandError::Verify(why))),
+    }
+}
+
+/// The same of a longer game, where its mark names another recording and does not know all of its inputs.
+fn certain(
+    alloc: Global,
+    game: Compared,
+    cartridge: &Cartridge,
+    found: &FoundMark,
+) -> Result<Compared, Fault>
+    ensures { IfErr result (IsNotOf cartridge.now (file_disk game.save) (file_disk game.recording)) }
+{
+    if !is_in_doubt(found, game.count) {
+        return Ok(game);
+    }
+    let pair = Pair {
+        save: game.save,
+        recording: game.recording,
+    };
+    belonging(alloc, pair, cartridge, u64::MAX)
+}
+
+fn is_in_doubt(found: &FoundMark, count: u64) -> bool {
+    let known = match found.said {
+        None => return false,
+        Some(Mark::Named) => 0,
+        Some(Mark::Remembered(known)) => known.count,
+    };
+    !found.names_it && count > MOST_REPLAYED && known < count
+}
+
+/// A game and the recording that its mark knows.
+#[derive(Drop)]
+struct KnownGame {
+    save: FileDevice,
+    recording: FileDevice,
+    /// What the mark is to say of the recording.
+    known: Known,
+}
+
+/// What the mark knew, if it did.
+fn known_before(said: Option<Mark>) -> Option<Known>
+    ensures { result ≡ known_by said }
+{
+    match said {
+        Some(Mark::Remembered(known)) => Some(known),
+        _ => None,
+    }
+}
+
+/// Looks whether the recording is the one that the game's mark knows.
+fn marked(
+    alloc: Global,
+    game: Compared,
+    cartridge: &Cartridge,
+    said: Option<Mark>,
+) -> Result<KnownGame, Fault>
+    ensures known { IfOk result (λ marked. (file_disk game.recording).honest → IsRemembered said game.count marked.known
+        (inputs (entries (file_disk game.recording).sectors))) }
+    ensures cause { IfErr result (IsNotMarked said (file_disk game.recording)) }
+{
+    let before = known_before(said);
+    let found = known_of(
+        alloc,
+        game.recording,
+        cartridge.digest(),
+        before,
+        game.count,
+    );
+    match found.answer {
+        Ok(known) => Ok(KnownGame {
+            save: game.save,
+            recording: found.device,
+            known,
+        }),
+        Err(MarkFault::Other) => Err(Fault::OtherRecording),
+        Err(MarkFault::Recording(RecordingFault::Memory)) => Err(Fault::Memory),
+        Err(MarkFault::Recording(_)) => Err(Fault::Device(DeviceFault::Device)),
     }
 }
 

@@ -1,5 +1,5 @@
 use Rattle.gbkeep.proofs.fault.report.Goals as goal
-use Rattle.gbkeep.proofs.fault.report.Goals.{in-Cart, in-Memory, in-File, in-Output, in-Address, in-Word, in-Device, in-Script, in-Session, in-Line, in-Input, in-Snapshot, in-Recording, in-Behind, in-Ahead, in-Differ, in-RecordedGame, in-TestFailed, in-TestUndecided, in-NoBattery, in-BatteryLength}
+use Rattle.gbkeep.proofs.fault.report.Goals.{in-Cart, in-Memory, in-File, in-Output, in-Address, in-Word, in-Device, in-Script, in-Session, in-Line, in-Input, in-Snapshot, in-Recording, in-Behind, in-Ahead, in-Differ, in-OtherRecording, in-RecordedGame, in-TestFailed, in-TestUndecided, in-NoBattery, in-BatteryLength}
 
 pub returns-clause-line : goal.returns-clause-line
 returns-clause-line g c =
@@ -20,6 +20,7 @@ returns-clause-line g c =
       | in-Behind w ↦ rw w.in-Behind.is tt
       | in-Ahead w ↦ rw w.in-Ahead.is tt
       | in-Differ w ↦ rw (w.in-Differ.is, w.err-is) w.write_line-in-Differ.ensures
+      | in-OtherRecording w ↦ rw (w.in-OtherRecording.is, w.err-is) w.write_line-in-OtherRecording.ensures
       | in-RecordedGame w ↦ rw (w.in-RecordedGame.is, w.err-is) w.write_line-in-RecordedGame.ensures
       | in-TestFailed w ↦ rw (w.in-TestFailed.is, w.err-is) w.write_line-in-TestFailed.ensures
       | in-TestUndecided w ↦ rw (w.in-TestUndecided.is, w.err-is) w.write_line-in-TestUndecided.ensures

@@ -3,10 +3,9 @@ use Rattle.sector_device.specs.FileDevice.{file_disk}
 use Rattle.replaying.specs.Verifying.{IsOfVerifying, IsVerifyCause}
 use Rattle.replaying.specs.declared.error.VerifyError.{VerifyError}
 use Rattle.gbkeep.specs.Program.{IsNotOf}
-use Rattle.gbkeep.specs.Request.{record_limits}
 use Rattle.gbkeep.specs.declared.fault.Fault.{Fault}
 use Rattle.gbkeep.proofs.FileTexts.{err_at}
-use Rattle.gbkeep.proofs.RecordTexts.{not_of}
+use Rattle.gbkeep.proofs.RecordTexts.{limits_of, not_of}
 use Rattle.gbkeep.proofs.recordings.belonging.Goals as goal
 
 pub returns-in-Err : goal.returns-in-Err
@@ -14,7 +13,7 @@ returns-in-Err c =
     let game = file_disk c.args.pair.save in
     let tape = file_disk c.args.pair.recording in
     subst (λ (fault : Fault). IsNotOf c.args.cartridge.now game tape fault) (sym c.from.ensures)
-    (not_of c.args.cartridge.now game tape c.in-Err.why
-    (err_at c.verify-found.result.answer c.in-Err.why (λ (why : VerifyError). game.honest → tape.honest → IsVerifyCause (Some record_limits) c.args.cartridge.now game tape why)
+    (not_of c.args.cartridge.now game tape c.args.replayed c.in-Err.why
+    (err_at c.verify-found.result.answer c.in-Err.why (λ (why : VerifyError). game.honest → tape.honest → IsVerifyCause (Some (limits_of c.args.replayed)) c.args.cartridge.now game tape why)
     c.in-Err.is c.verify-found.ensures.cause)
-    (err_at c.verify-found.result.answer c.in-Err.why (IsOfVerifying (Some record_limits)) c.in-Err.is c.verify-found.ensures.kind))
+    (err_at c.verify-found.result.answer c.in-Err.why (IsOfVerifying (Some (limits_of c.args.replayed))) c.in-Err.is c.verify-found.ensures.kind))
