@@ -12,6 +12,7 @@ import tempfile
 import test_batteries
 import test_commands
 import test_files
+import test_kept_files
 import test_outputs
 import test_recordings
 from room import Room
@@ -20,7 +21,7 @@ from room import Room
 def main():
     if len(sys.argv) != 2:
         sys.exit(__doc__)
-    tests = [test for module in (test_commands, test_recordings, test_batteries, test_files, test_outputs) for name, test in vars(module).items() if name.startswith('test_')]
+    tests = [test for module in (test_commands, test_recordings, test_batteries, test_files, test_kept_files, test_outputs) for name, test in vars(module).items() if name.startswith('test_')]
     runs = differences = 0
     for test in tests:
         with tempfile.TemporaryDirectory(prefix='program-') as folder:
