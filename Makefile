@@ -185,7 +185,8 @@ play: bin/gbkeep
 CC ?= cc
 LIBRETRO ?= /usr/include/libretro-common
 
-$(OUT)/gbkeep_libretro.so: $(OUT)/libgbkeep.so scripts/libretro.py players/libretro/gbkeep_libretro.c players/libretro/faults_h.py python/gbkeep/faults.py | $(LOOK)
+$(OUT)/gbkeep_libretro.so: $(OUT)/libgbkeep.so scripts/libretro.py players/libretro/gbkeep_libretro.c players/libretro/tables_h.py python/gbkeep/faults.py \
+  python/gbkeep/palettes.py | $(LOOK)
 	CC="$(CC)" LIBRETRO="$(LIBRETRO)" python3 -B scripts/libretro.py $(ARCH)
 
 libretro: $(OUT)/gbkeep_libretro.so

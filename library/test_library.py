@@ -137,6 +137,80 @@ class Playing(InFolder):
             self.assertEqual(save.read_bytes(), content)
         result = run(self.play, self.script, self.folder / 'new', self.script)
         self.assertEqual((result.returncode, result.stderr.startswith(b'play: rom length: ')), (1, True), result.stderr)
+        # zeros may be a battery file
+        for length in (8192, 32768, SECTOR * sectors_needed(ROM)):
+            save.write_bytes(bytes(length))
+            result = run(self.play, DEMO, save, self.script)
+            said = b'play: no session: there is no game in SAVE, and it stays as it is: name another file, and a game is begun there\n'
+            self.assertEqual((result.returncode, result.stderr, save.read_bytes()), (1, said, bytes(length)))
+
+    def test_a_recorded_game_is_not_played(self):
+        save, recording, mark = (self.folder / name for name in ('save', 'recording', 'save.recorded'))
+        self.gbkeep('new', DEMO, save)
+        self.gbkeep('new-recording', DEMO, recording, 100)
+        result = run(PROGRAM, 'record', DEMO, save, recording, input=b'frames 00 40\nsave\n')
+        self.assertEqual((result.returncode, mark.exists()), (0, True), result.stderr)
+        (self.folder / 'elsewhere').mkdir()
+        link = self.folder / 'elsewhere/link'
+        link.symlink_to(save)
+        held = save.read_bytes(), recording.read_bytes(), mark.read_bytes()
+        for name in (save, link):
+            result = run(self.play, DEMO, name, self.script)
+            self.assertEqual((save.read_bytes(), recording.read_bytes(), mark.read_bytes()), held)
+            self.assertEqual((result.returncode, result.stdout, result.stderr),
+                             (1, b'', b'play: recorded game: play it by `gbkeep record`; to end the recording, remove SAVE.recorded\n'))
+        self.gbkeep('verify', DEMO, save, recording)
+        # without its recording it goes on
+        mark.unlink()
+        self.assertEqual(self.c(link)[0], 'resumed 40')
+
+    def test_a_new_game_that_is_cut_leaves_none_or_one(self):
+        save = self.folder / 'save'
+        for calls in range(1000):
+            result = run(self.play, DEMO, save, self.script, calls)
+            self.assertEqual(result.returncode, 137, result.stderr)
+            if save.exists():
+                # what has the name is a game, and it has no other name
+                self.assertEqual((save_files.looked_at(save.read_bytes(), CART)[0], save.stat().st_nlink), (0, 1))
+                break
+            left = self.folder / 'save.new-1'
+            self.assertEqual(sorted(self.folder.iterdir()), sorted([left, self.script]))
+            left.unlink()
+        else:
+            self.fail('1,000 calls were not enough')
+        self.assertGreater(calls, 2)
+        self.assertEqual(self.c(save)[0], 'resumed 0')
+
+    def test_nothing_that_is_there_is_replaced(self):
+        save = self.folder / 'save'
+        save.symlink_to('nowhere')
+        result = run(self.play, DEMO, save, self.script)
+        self.assertEqual((result.returncode, result.stderr.count(b'\n'), sorted(os.listdir(self.folder))), (1, 1, ['save', 'script']), result.stderr)
+        save.unlink()
+        # a file that others have is none of a new game's
+        other = self.folder / 'save.new-1'
+        other.write_bytes(b'mine')
+        self.assertEqual(self.c(save)[0], 'begun 0')
+        self.assertEqual((other.read_bytes(), sorted(os.listdir(self.folder))), (b'mine', ['save', 'save.new-1', 'script']))
+
+    def test_what_is_printed_goes_into_no_file(self):
+        start, whole, script = (self.folder / name for name in ('start', 'whole', 'wrong'))
+        self.gbkeep('new', DEMO, start)
+        # a refusal at the end is printed, too
+        script.write_bytes(SCRIPT + b'save\nno line\n')
+        shutil.copy(start, whole)
+        self.assertEqual(run(self.play, DEMO, whole, script).returncode, 1)
+        for closed in ('0<&-', '1>&-', '2>&-', '1>&- 2>&-', '0<&- 2>&-', '0<&- 1>&-', '0<&- 1>&- 2>&-'):
+            for given in [script] + ['-'] * ('0<&-' not in closed):
+                with self.subTest(closed=closed, script=given):
+                    save = self.folder / 'save'
+                    shutil.copy(start, save)
+                    result = run('sh', '-c', f'exec "$@" {closed}', 'sh', self.play, DEMO, save, given, input=script.read_bytes())
+                    self.assertEqual((result.returncode, save.read_bytes() == whole.read_bytes()), (1, True), result.stderr)
+        # without standard input there is no script on it
+        shutil.copy(start, save)
+        result = run('sh', '-c', 'exec "$@" 0<&-', 'sh', self.play, DEMO, save, '-')
+        self.assertEqual((result.returncode, result.stderr), (1, b"play: SCRIPT can't be read\n"))
 
 
 class Linked(InFolder):

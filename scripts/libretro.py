@@ -28,8 +28,8 @@ def main():
     compiler, out = (target.compiler(), TOP / 'bin/arm64') if words else (os.environ.get('CC') or 'cc', TOP / 'bin')
     out.mkdir(parents=True, exist_ok=True)
     with tempfile.TemporaryDirectory(dir=out) as folder:
-        with open(f'{folder}/faults.h', 'wb') as table:
-            subprocess.run([sys.executable, '-B', SOURCES / 'faults_h.py'], stdout=table, check=True)
+        with open(f'{folder}/tables.h', 'wb') as tables:
+            subprocess.run([sys.executable, '-B', SOURCES / 'tables_h.py'], stdout=tables, check=True)
         made, names = Path(folder) / 'gbkeep_libretro.so', Path(folder) / 'core.map'
         names.write_text('{ global: retro_*; local: *; };\n', encoding='utf-8')
         status = subprocess.run([compiler, *FLAGS, f'-Wl,--version-script={names}', f'-I{folder}', f'-I{out}', f'-I{headers}', '-o', made,

@@ -8,7 +8,6 @@ usage: test_web.py GBKEEP [NAME ..]     NAME: of a test, as kills; all are run w
 It needs Debian's packages chromium, chromium-driver and python3-selenium, and installs nothing; firefox-esr is tried, too, where it is there. What the
 page plays is compared with what the program plays. The whole browser is killed with SIGKILL at random moments. KILLS is how often (20); SEED says when;
 PAGE names another folder than dist/web."""
-import ast
 import contextlib
 import functools
 import hashlib
@@ -32,6 +31,7 @@ from examples.demo.assemble import Assembler
 from examples.demo.check import SAYS, glyphs, letters
 from examples.speed import build as speed_roms
 from gbkeep import Picture
+from gbkeep.palettes import PALETTES
 from gbkeep.timed_game import SaveTime, TimedGame, given_until, lines_of
 
 HERE = Path(__file__).resolve().parent
@@ -1423,18 +1423,17 @@ class Around(WithBrowser):
         """The palettes are the window's, and a pixel is a whole number of the screen's."""
         page = self.play('scrolling')
         page.press(0, 100)
-        palettes = ast.literal_eval(re.search(r'^PALETTES = (\[\[.*?\]\])$', (TOP / 'python/gbkeep/window.py').read_text(), re.S | re.M)[1])
         shades, there = page.picture(), """
             const canvas = document.getElementById('screen');
             const data = canvas.getContext('2d').getImageData(0, 0, 160, 144).data;
             return [[...data].filter((_, k) => k % 4 < 3), parseFloat(canvas.style.width) * devicePixelRatio / 160];"""
         number = page.js("return document.getElementById('palette').selectedIndex")
-        for _ in range(len(palettes)):
+        for _ in range(len(PALETTES)):
             self.browser.find_element(By.ID, 'screen').send_keys(Keys.F2)
-            number = (number + 1) % len(palettes)
+            number = (number + 1) % len(PALETTES)
             self.assertEqual(page.js("return document.getElementById('palette').selectedIndex"), number)
             colours, scale = page.js(there)
-            self.assertEqual(bytes(colours), bytes(one for shade in shades for one in palettes[number][shade]))
+            self.assertEqual(bytes(colours), bytes(one for shade in shades for one in PALETTES[number][shade]))
             self.assertEqual(scale % 1, 0)
             self.assertGreaterEqual(scale, 2)
 

@@ -7,7 +7,8 @@
  * The thread has one job at a time: the calls of a save; SAVE.time, for a cartridge with a clock; or a session that is taken up anew. A disk that takes a minute ends the game, and is left
  * behind with all that it needs, since nobody can end a call of a disk that does not answer. `gbkeep import` alone is still run as a program.
  *
- * A front end that runs ahead by a second instance has that one load the same game: it gets a machine without a SAVE. */
+ * A front end that runs ahead by a second instance has that one load the same game: it gets a machine without a SAVE. Any other second load gets one, too, and is
+ * told that nothing is saved there. */
 #define _GNU_SOURCE
 #include <errno.h>
 #include <fcntl.h>
@@ -29,9 +30,9 @@
 #include <sys/wait.h>
 #include <time.h>
 #include <unistd.h>
-#include "faults.h"
 #include "gbkeep.h"
 #include "libretro.h"
+#include "tables.h"
 
 #ifndef GBKEEP_PROGRAM
 #define GBKEEP_PROGRAM "gbkeep"
@@ -75,6 +76,12 @@ enum { YEAR = 366 * 86400, NO_FAULT = 60 };
 enum { MOST_TIME_BYTES = 512, MOST_TIME_LINES = 8 };
 /* so few seconds are given to the clock while the game goes on: of the line that SAVE.time has before, a power cut may leave the count too small */
 enum { FEW_SECONDS = 5 };
+/* the first number behind those of the standard streams */
+enum { FIRST_FILE = 3 };
+/* what a front end wants of a frame, in bits: that it is shown; and that its sound is never needed, as of the second instance by which it runs ahead */
+enum { IS_SHOWN = 1, HAS_NO_SOUND = 8 };
+/* frames from one telling that nothing is saved to the next: a minute */
+enum { FRAMES_UNSAVED = 3600 };
 /* what is shown at once has room on the smallest screen */
 enum { MOST_SHOWN = 64, MOST_LINE = 64 };
 /* where a state has what the front end may look at (docs/SNAPSHOT.md) */
@@ -82,17 +89,8 @@ enum { NUMBER = 8, STATE_MORE = 2 * NUMBER, STATE_IE = 22, STATE_VRAM = 128, STA
 static const long long LAST_SECOND = 99999999999, MOST_SECONDS = 0xffffffff;
 static const double FRAMES_A_SECOND = 4194304.0 / 70224;
 
-/* darkest first */
-static const uint32_t PALETTES[][4] = {
-    {0x0f380f, 0x306230, 0x8bac0f, 0xe0f8d0},
-    {0x000000, 0x555555, 0xaaaaaa, 0xffffff},
-    {0x1f1f1f, 0x4d533c, 0x8b956d, 0xc4cfa1},
-    {0xffffff, 0xaaaaaa, 0x555555, 0x000000},
-};
-static const char *const PALETTE_NAMES[] = {"green", "grey", "pocket", "night"};
-
 static const struct retro_variable VARIABLES[] = {
-    {"gbkeep_palette", "Palette; green|grey|pocket|night"},
+    {"gbkeep_palette", "Palette; " PALETTE_CHOICE},
     {"gbkeep_save_seconds", "Seconds between saves; 1|2|5|10|30"},
     {"gbkeep_time_away", "Give the time away to a cartridge's clock; yes|no"},
     {"gbkeep_messages", "Messages; refusals only|none|all"},
@@ -158,7 +156,7 @@ static struct {
     char cart[PATH_MAX], save[PATH_MAX], clock_file[PATH_MAX];
     bool has_clock, gives_time_away, is_new, imports;
     enum messages messages;
-    unsigned palette, save_frames, shown_frames;
+    unsigned palette, save_frames, shown_frames, unsaved_frames;
     /* The number of the last frame, which a state takes back, and of the one before the last save; and how many were played since that. */
     unsigned long long frame, saved_frame, played;
     /* inputs: all, those that no save was asked for, and those that are saved */
@@ -201,11 +199,11 @@ static void tell(enum news kind, unsigned frames, const char *more, const char *
 }
 
 static bool fits(const char *pattern, const char *line) {
-    /* N stands for a number, XX for two hexadecimal digits; the library leaves out a number at the end */
+    /* N and M stand for numbers, XX for two hexadecimal digits; the library leaves out a number at the end */
     for (; *pattern; pattern++) {
         if (strcmp(pattern, " N") == 0 && !*line)
             return true;
-        if (*pattern == 'N') {
+        if (*pattern == 'N' || *pattern == 'M') {
             if (*line < '0' || *line > '9')
                 return false;
             while (*line >= '0' && *line <= '9')
@@ -299,6 +297,27 @@ static long long milliseconds(void) {
     return milliseconds_of(CLOCK_MONOTONIC);
 }
 
+/* Holds the numbers of standard streams that the front end was started without, and writes its log to all the same: for good, by what can't be written. */
+static void hold_streams(void) {
+    int fd;
+    while ((fd = open("/", O_PATH | O_CLOEXEC)) >= 0 && fd < FIRST_FILE)
+        ;
+    if (fd >= 0)
+        close(fd);
+}
+
+/* Opens a file as openat does, but never with such a number, also where the front end closes one meanwhile. */
+static int open_above(int folder, const char *name, int flags, mode_t mode) {
+    hold_streams();
+    int fd = openat(folder, name, flags | O_CLOEXEC, mode);
+    if (fd < 0 || fd >= FIRST_FILE)
+        return fd;
+    int above = fcntl(fd, F_DUPFD_CLOEXEC, FIRST_FILE), why = errno;
+    close(fd);
+    errno = why;
+    return above;
+}
+
 static void close_one(int *fd) {
     if (*fd >= 0)
         close(*fd);
@@ -356,7 +375,7 @@ static int open_folder(char path[PATH_MAX], const char **name) {
     *name = slash ? slash + 1 : path;
     if (slash)
         *slash = 0;
-    return open(slash ? *path ? path : "/" : ".", O_RDONLY | O_DIRECTORY | O_CLOEXEC);
+    return open_above(AT_FDCWD, slash ? *path ? path : "/" : ".", O_RDONLY | O_DIRECTORY, 0);
 }
 
 /* Whether the name is still that of the empty file that keeps it, and that of somebody who makes files here. */
@@ -366,19 +385,27 @@ static bool is_kept(int folder, const char *name, int keeper, int made) {
         && held.stx_dev_minor == named.stx_dev_minor && held.stx_uid == own.stx_uid;
 }
 
+/* Gives a new file the owner of SAVE where root plays the game of a user, who is to go on with it. A file system without owners changes nothing. */
+static void give_to_owner(int fd, int save) {
+    struct statx owned = about_open(save);
+    if (geteuid() == 0 && owned.stx_mode != 0 && fchown(fd, owned.stx_uid, owned.stx_gid) != 0)
+        return;
+}
+
 /* Makes a file of these bytes durable under a name that nobody has, and then gives it its own. What has that name is replaced, and its permissions stay;
- * where there is a keeper, only that one. */
-static bool put_file(int folder, const char *name, const void *bytes, size_t size, int keeper) {
+ * where there is a keeper, only that one. A file beside SAVE gets SAVE's owner. */
+static bool put_file(int folder, const char *name, const void *bytes, size_t size, int keeper, int save) {
     char made[48];
     unsigned long long number;
     if (getrandom(&number, sizeof number, 0) != sizeof number)
         return false;
     snprintf(made, sizeof made, ".gbkeep-%016llx.new", number);
-    int fd = openat(folder, made, O_WRONLY | O_CREAT | O_EXCL | O_NOFOLLOW | O_CLOEXEC, 0666);
+    int fd = open_above(folder, made, O_WRONLY | O_CREAT | O_EXCL | O_NOFOLLOW, 0666);
     if (fd < 0)
         return false;
     unsigned mode = keeper < 0 ? about(folder, name, AT_SYMLINK_NOFOLLOW).stx_mode : 0;
-    bool good = (mode == 0 || fchmod(fd, mode & 0777) == 0) && write_at(fd, bytes, size, 0) && fsync(fd) == 0;
+    give_to_owner(fd, save);
+    bool good = (!S_ISREG(mode) || fchmod(fd, mode & 0777) == 0) && write_at(fd, bytes, size, 0) && fsync(fd) == 0;
     good = good && (keeper < 0 || is_kept(folder, name, keeper, fd));
     good = close(fd) == 0 && good && renameat(folder, made, folder, name) == 0;
     if (!good)
@@ -387,8 +414,8 @@ static bool put_file(int folder, const char *name, const void *bytes, size_t siz
 }
 
 /* The first bytes of a plain file, `most` and one more; NULL where it can't be read. */
-static uint8_t *read_file(const char *path, size_t most, size_t *length) {
-    int fd = open(path, O_RDONLY | O_NONBLOCK | O_CLOEXEC | O_NOCTTY);
+static uint8_t *read_file(const char *path, int flags, size_t most, size_t *length) {
+    int fd = open_above(AT_FDCWD, path, O_RDONLY | O_NONBLOCK | O_NOCTTY | flags, 0);
     struct statx found = about_open(fd);
     *length = found.stx_size > most ? most + 1 : (size_t)found.stx_size;
     uint8_t *bytes = fd >= 0 && S_ISREG(found.stx_mode) ? malloc(*length + 1) : NULL;
@@ -419,6 +446,7 @@ static bool run_command(char *const words[]) {
     int errors[2], status = 0;
     pid_t pid, ended = 0;
     posix_spawn_file_actions_t files;
+    hold_streams();
     if (pipe2(errors, O_CLOEXEC))
         return fail_with("no pipe could be had", "");
     posix_spawn_file_actions_init(&files);
@@ -480,21 +508,20 @@ static bool make_calls(struct job *job) {
     return true;
 }
 
-static int read_clock_file(const char *path, struct time_line lines[MOST_TIME_LINES]);
+static int read_clock_file(const char *path, int save, struct time_line lines[MOST_TIME_LINES]);
 
-/* Puts these lines in the place of SAVE.time, durably. A file of somebody else's stays, and so does a link. */
-static bool write_clock_file(const char *file, const struct time_line lines[], int count) {
+/* Puts these lines in the place of SAVE.time, durably. What is not taken as one stays. */
+static bool write_clock_file(const char *file, int save, const struct time_line lines[], int count) {
     struct time_line old[MOST_TIME_LINES];
     char path[PATH_MAX], text[MOST_TIME_BYTES] = "";
     const char *name;
-    if (read_clock_file(file, old) < 0)
+    if (read_clock_file(file, save, old) < 0)
         return false;
-    if (!realpath(file, path))
-        snprintf(path, sizeof path, "%s", file);
+    snprintf(path, sizeof path, "%s", file);
     for (int one = 0; one < count; one++)
         snprintf(text + strlen(text), sizeof text - strlen(text), "%llu %lld\n", lines[one].count, lines[one].seconds);
     int folder = open_folder(path, &name);
-    bool good = folder >= 0 && put_file(folder, name, text, strlen(text), -1);
+    bool good = folder >= 0 && put_file(folder, name, text, strlen(text), -1, save);
     close_one(&folder);
     return good;
 }
@@ -514,7 +541,7 @@ static void *work(void *given) {
     else if (job->work == RENEW)
         good = gbkeep_session_resume(game.rom, game.rom_length, game.image, (size_t)game.sectors * SECTOR, &job->fresh) == GBKEEP_DONE;
     else
-        good = write_clock_file(job->clock_file, job->lines, job->line_count);
+        good = write_clock_file(job->clock_file, job->file, job->lines, job->line_count);
     if (!atomic_compare_exchange_strong(&job->outcome, &running, good ? DONE : FAILED)) {
         free_job(job);
         atomic_fetch_sub(&left, 1);
@@ -668,14 +695,21 @@ static bool take_number(const char **text, unsigned long long most, unsigned lon
     return true;
 }
 
+/* Whether a file beside SAVE is one's own: of who plays, of SAVE's owner or of root. Others may have put any other there, where the folder is shared. A second name
+ * is no reason: backups are made so. */
+static bool is_own(int fd, int save) {
+    struct statx found = about_open(fd), owned = about_open(save);
+    return S_ISREG(found.stx_mode)
+        && (found.stx_uid == geteuid() || found.stx_uid == 0 || (owned.stx_mode != 0 && found.stx_uid == owned.stx_uid));
+}
+
 /* The lines of SAVE.time: how many there are; 0 where it is not there or empty, and -1 where it is no file of the core's or the window's. */
-static int read_clock_file(const char *path, struct time_line lines[MOST_TIME_LINES]) {
+static int read_clock_file(const char *path, int save, struct time_line lines[MOST_TIME_LINES]) {
     char text[MOST_TIME_BYTES + 1];
-    int fd = open(path, O_RDONLY | O_NONBLOCK | O_CLOEXEC | O_NOCTTY), found = 0;
+    int fd = open_above(AT_FDCWD, path, O_RDONLY | O_NONBLOCK | O_NOCTTY | O_NOFOLLOW, 0), found = 0;
     if (fd < 0)
         return errno == ENOENT && !exists(path) ? 0 : -1;
-    bool is_plain = S_ISREG(about_open(fd).stx_mode);
-    ssize_t size = is_plain ? read(fd, text, sizeof text) : -1;
+    ssize_t size = is_own(fd, save) ? read(fd, text, sizeof text) : -1;
     close(fd);
     if (size < 0 || size > MOST_TIME_BYTES || memchr(text, 0, (size_t)size))
         return -1;
@@ -692,13 +726,14 @@ static int read_clock_file(const char *path, struct time_line lines[MOST_TIME_LI
 
 static bool note_clock(bool good) {
     if (!good && !game.clock_stands)
-        tell(REFUSAL, 300, "The cartridge's clock stands still, since SAVE.time can't be written or is another kind of file.", "The clock stands still: no SAVE.time can be written");
+        tell(REFUSAL, 300, "The cartridge's clock stands still, since SAVE.time can't be written, or is a link, somebody else's or another kind of file. "
+             "What to do: take it away, and the clock goes on from where it stands.", "The clock stands still: no SAVE.time can be written");
     game.clock_stands = !good;
     return good;
 }
 
 static bool write_time(const struct time_line lines[], int count) {
-    if (!note_clock(write_clock_file(game.clock_file, lines, count)))
+    if (!note_clock(write_clock_file(game.clock_file, game.file, lines, count)))
         return false;
     game.written = lines[0];
     return true;
@@ -786,7 +821,7 @@ static void begin_clock(void) {
         return;
     long long now = milliseconds_of(CLOCK_REALTIME);
     game.given_until = now / 1000;
-    int count = read_clock_file(game.clock_file, lines);
+    int count = read_clock_file(game.clock_file, game.file, lines);
     if (count > 0 && !game.is_new)
         take_up_time(lines, count);
     else if (count == 0 && game.count > 0 && game.gives_time_away)
@@ -1007,27 +1042,34 @@ static bool make_file(void) {
     char path[PATH_MAX];
     const char *name;
     memcpy(path, game.save, sizeof path);
-    int folder = open_folder(path, &name), keeper = openat(folder, name, O_WRONLY | O_CREAT | O_EXCL | O_NOFOLLOW | O_CLOEXEC, 0600);
-    bool is_own = keeper >= 0, good;
-    if (!is_own)
-        keeper = openat(folder, name, O_WRONLY | O_NOFOLLOW | O_NONBLOCK | O_CLOEXEC | O_NOCTTY);
+    int folder = open_folder(path, &name), keeper = open_above(folder, name, O_WRONLY | O_CREAT | O_EXCL | O_NOFOLLOW, 0600);
+    bool is_made = keeper >= 0, good;
+    if (!is_made)
+        keeper = open_above(folder, name, O_WRONLY | O_NOFOLLOW | O_NONBLOCK | O_NOCTTY, 0);
     struct statx found = about_open(keeper);
-    good = keeper >= 0 && S_ISREG(found.stx_mode) && found.stx_size == 0 && (is_own || (found.stx_mode & 022) == 0) && lock(keeper);
-    good = good && put_file(folder, name, game.image, (size_t)game.sectors * SECTOR, keeper);
-    if (!good && is_own && is_kept(folder, name, keeper, keeper))
+    good = keeper >= 0 && S_ISREG(found.stx_mode) && found.stx_size == 0 && found.stx_nlink <= 1 && (is_made || (found.stx_mode & 022) == 0) && lock(keeper);
+    good = good && put_file(folder, name, game.image, (size_t)game.sectors * SECTOR, keeper, -1);
+    if (!good && is_made && is_kept(folder, name, keeper, keeper))
         unlinkat(folder, name, 0);
     close_one(&keeper), close_one(&folder);
     return good;
 }
 
-/* Takes away the mark that a recorded game of this name left, and no other file. */
+/* Takes away the mark that a recorded game of this name left, and no other file: the recording's name, `gbkeep record`, and perhaps a number and a digest. */
 static void unmark(void) {
-    static const char end[] = "\ngbkeep record\n";
+    static const char line[] = "\ngbkeep record\n";
     char path[PATH_MAX];
-    size_t length, size = sizeof end - 1;
-    uint8_t *mark = find_mark(path) ? read_file(path, 8192, &length) : NULL;
-    if (mark && length >= size && length <= 8192 && memcmp(mark + length - size, end, size) == 0)
-        unlink(path);
+    size_t length, size = sizeof line - 1, end;
+    uint8_t *mark = find_mark(path) ? read_file(path, O_NOFOLLOW, 8192, &length) : NULL;
+    if (mark && length >= size && length <= 8192) {
+        mark[length] = 0;
+        for (end = length - 1; end > 0 && mark[end - 1] != '\n';)
+            end--;
+        if (end == 0 || end + strspn((char *)mark + end, "0123456789abcdef \n") != length)
+            end = length;
+        if (end >= size && memcmp(mark + end - size, line, size) == 0)
+            unlink(path);
+    }
     free(mark);
 }
 
@@ -1075,7 +1117,7 @@ static bool begin_game(void) {
 /* Opens SAVE as the program does: locks it, syncs it, since what was written and not synced, by whomever, has to stand before it is read, and reads it. */
 static bool open_save(void) {
     char line[MOST_LINE], mark[PATH_MAX];
-    game.file = open(game.save, O_RDWR | O_NONBLOCK | O_CLOEXEC | O_NOCTTY);
+    game.file = open_above(AT_FDCWD, game.save, O_RDWR | O_NONBLOCK | O_NOCTTY, 0);
     if (game.file < 0 || !S_ISREG(about_open(game.file).stx_mode) || !lock(game.file) || fsync(game.file) != 0)
         return fail_with("device failed", "stream");
     struct statx found = about_open(game.file);
@@ -1094,9 +1136,9 @@ static bool open_save(void) {
     return !find_mark(mark) || fail_with("recorded game: play it by record", "stream");
 }
 
-/* Whether this is a second instance, which runs ahead by the states of the first one: this very process has SAVE open, and by no thread that was left. */
+/* Whether this is a second load of the game: this very process has SAVE open, and by no thread that was left. */
 static bool is_second(void) {
-    int fd = open(game.save, O_RDONLY | O_NONBLOCK | O_CLOEXEC | O_NOCTTY);
+    int fd = open_above(AT_FDCWD, game.save, O_RDONLY | O_NONBLOCK | O_NOCTTY, 0);
     struct statx wanted = about_open(fd);
     bool is_found = false;
     if (fd >= 0 && !lock(fd) && atomic_load(&left) == 0)
@@ -1111,7 +1153,7 @@ static bool is_second(void) {
 
 static bool take_up(void) {
     uint32_t code, needed;
-    game.rom = read_file(game.cart, MOST_ROM, &game.rom_length);
+    game.rom = read_file(game.cart, 0, MOST_ROM, &game.rom_length);
     game.job = calloc(1, sizeof *game.job);
     if (!game.rom)
         return fail_with("file failed", "stream");
@@ -1221,6 +1263,13 @@ RETRO_API bool retro_load_game_special(unsigned type, const struct retro_game_in
     return false;
 }
 
+/* A second load that is no front end's way to run ahead is played by somebody: it is told that nothing is saved. */
+static void tell_unsaved(int wanted) {
+    if (game.machine && !(wanted & HAS_NO_SOUND) && game.unsaved_frames++ % FRAMES_UNSAVED == 0)
+        tell(REFUSAL, 600, "This front end has the game open twice, and the first one alone has its SAVE: nothing that is played in this one is saved. What to do: "
+             "close this one and go on in the first, or close both and open the game once.", "This game is open twice: nothing that is played here is saved");
+}
+
 /* Gives the game a frame, and saves it where that is due. */
 static bool play_frame(uint8_t buttons) {
     if (game.machine) {
@@ -1253,17 +1302,18 @@ RETRO_API void retro_run(void) {
         if (pressed(0, RETRO_DEVICE_JOYPAD, 0, BUTTONS[bit]))
             buttons |= 1u << bit;
     game.shown_frames++;
+    tell_unsaved(wanted);
     if (play_frame((uint8_t)buttons)) {
-        if (wanted & 1 && game.session)
+        if (wanted & IS_SHOWN && game.session)
             gbkeep_session_picture(game.session, game.shades, SHADES);
-        else if (wanted & 1)
+        else if (wanted & IS_SHOWN)
             gbkeep_machine_picture(game.machine, game.shades, SHADES);
         if (game.session)
             look_into();
     } else if (game.fault[0] && game.shown_frames % 300 == 0) {
         tell(REFUSAL, 300, NULL, "%s", game.shown);
     }
-    if (wanted & 1)
+    if (wanted & IS_SHOWN)
         for (int at = 0; at < SHADES; at++)
             pixels[at] = PALETTES[game.palette][game.shades[at] & 3];
     show(pixels, WIDTH, HEIGHT, WIDTH * sizeof *pixels);

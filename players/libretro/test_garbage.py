@@ -44,8 +44,8 @@ TIMES = [b'', b'5 1000\n', b'18446744073709551615 99999999999\n', b'0 9223372036
 
 
 def build(folder):
-    with open(folder / 'faults.h', 'w') as table:
-        subprocess.run([sys.executable, '-B', HERE / 'faults_h.py'], stdout=table, check=True)
+    with open(folder / 'tables.h', 'w') as tables:
+        subprocess.run([sys.executable, '-B', HERE / 'tables_h.py'], stdout=tables, check=True)
     core = folder / 'core.so'
     subprocess.run([COMPILER, *FLAGS, f'-I{folder}', f'-I{BIN}', f'-I{HEADERS}', '-o', core, HERE / 'gbkeep_libretro.c', BIN / 'libgbkeep.a'], check=True)
     return core

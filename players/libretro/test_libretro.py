@@ -4,8 +4,10 @@ call; the program goes on with each game.
 
 usage: test_libretro.py GBKEEP CORE         the status is 1 at the first difference
        test_libretro.py play CORE CART FOLDER FRAMES     plays so many frames, and prints what the core tells (for the test itself)
+       test_libretro.py streams CORE CART FOLDER TOLD    plays, logs to the numbers of the standard streams, and leaves what it was told in TOLD (the same)
 
 It needs a C compiler, for what stands between the core and the disk, and bin/libgbkeep.so."""
+import contextlib
 import ctypes
 import hashlib
 import random
@@ -14,6 +16,7 @@ import os
 import shutil
 import signal
 import subprocess
+import stat
 import sys
 import tempfile
 import threading
@@ -23,21 +26,29 @@ from pathlib import Path
 
 from examples.demo.assemble import Assembler
 from gbkeep import A, RIGHT, START, Game, Machine
+from gbkeep.faults import FAULTS, explained
 from gbkeep.game import run
+from gbkeep.palettes import NAMES, PALETTES
+from gbkeep.save_files import root_of
 from gbkeep_tests.support import CART, CLOCK, DAY, expect, seconds_shown
+from scripts.not_tried import note
 
 WIDTH, HEIGHT = 160, 144
-PALETTES = {'green': [0x0f380f, 0x306230, 0x8bac0f, 0xe0f8d0], 'grey': [0, 0x555555, 0xaaaaaa, 0xffffff],
-            'pocket': [0x1f1f1f, 0x4d533c, 0x8b956d, 0xc4cfa1], 'night': [0xffffff, 0xaaaaaa, 0x555555, 0]}
+# a pixel of each shade, by the name of a palette
+COLOURS = {name: [int.from_bytes(colour, 'big') for colour in palette] for name, palette in zip(NAMES, PALETTES)}
 SET_MESSAGE, GET_SAVE_DIRECTORY, SET_PIXEL_FORMAT, GET_VARIABLE, SET_VARIABLES, GET_VARIABLE_UPDATE, GET_LOG, GET_CORE = 6, 31, 10, 15, 16, 17, 27, 19
 SET_MEMORY_MAPS, GET_AUDIO_VIDEO_ENABLE = 36 | 0x10000, 47 | 0x10000
-# what the front end wants of a frame: all, or nothing as it runs ahead
-WANTED, UNWANTED = 3, 4
+# what the front end wants of a frame: all, or nothing as it runs ahead; of the second instance by which it does so the picture, and no sound ever
+WANTED, UNWANTED, AHEAD = 3, 4, 13
 SYSTEM_RAM, SAVE_RAM = 2, 0
 # what a state of the front end's has behind the machine's: the clock's time, and the number of a frame
 TIME, MORE = 8, 16
 # what a line on the screen may have
 MOST_SHOWN = 64
+TWICE = 'This game is open twice: nothing that is played here is saved'
+STILL = 'The clock stands still: no SAVE.time can be written'
+# a user that is nobody's, and whom root can be
+USER = 65534
 # Stands between the core and the disk. KILL_AT: ends the process before the n-th call; FAIL_AT: that one fails; FAIL_EACH: so does each n-th; HOLD: syncs wait
 # while this file is there; DISK_LOG: gets a line for each call.
 DISK = r'''
@@ -116,7 +127,7 @@ class FrontEnd:
         self.options = {f'gbkeep_{key}'.encode(): value.encode() for key, value in options.items()}
         self.log, self.log_call = [], Log(lambda level, form, text: self.log.append(text.decode(errors='replace')))
         self.folder, self.told, self.buttons, self.looks, self.pixels, self.samples = os.fsencode(folder), [], 0, True, None, 0
-        self.wanted, self.map, self.raw = WANTED, {}, b''
+        self.wanted, self.map, self.raw, self.offered = WANTED, {}, b'', {}
         self.core = ctypes.CDLL(str(core))
         for name in ('load_game', 'serialize', 'unserialize'):
             getattr(self.core, f'retro_{name}').restype = ctypes.c_bool
@@ -149,7 +160,12 @@ class FrontEnd:
             self.map = {part.start: (part.ptr + part.offset, part.len) for part in given.descriptors[:given.count]}
         elif what == GET_LOG:
             ctypes.cast(data, ctypes.POINTER(ctypes.c_void_p))[0] = ctypes.cast(self.log_call, ctypes.c_void_p)
-        elif what not in (SET_PIXEL_FORMAT, SET_VARIABLES):
+        elif what == SET_VARIABLES:
+            variables = ctypes.cast(data, ctypes.POINTER(Variable))
+            while variables[len(self.offered)].key:
+                one = variables[len(self.offered)]
+                self.offered[one.key.decode()] = one.value.decode()
+        elif what != SET_PIXEL_FORMAT:
             return False
         return True
 
@@ -203,7 +219,7 @@ def test_play(program, core, room):
     folder = room / 'saves'
     folder.mkdir()
     save = folder / 'demo.gbkeep'
-    for palette, colours in PALETTES.items():
+    for palette, colours in COLOURS.items():
         front = FrontEnd(core, folder, palette=palette, messages='all')
         expect('a game is loaded', front.load(CART), True)
         front.frames(0, 60)
@@ -214,6 +230,7 @@ def test_play(program, core, room):
         shades, count = shades_of(program, CART, save, room)
         expect(f'the picture in {palette}', front.pixels, [colours[shade] for shade in shades])
         expect('sound', front.samples, 134 * 800)
+        expect('the palettes', front.offered['gbkeep_palette'], 'Palette; ' + '|'.join(NAMES))
     expect('all inputs are saved', count, 4 * 134)
     expect('what is told', (front.told[0], front.told[-1]), (f'resumed {3 * 134}', f'saved {4 * 134}'))
     for messages, wanted in (('none', []), ('refusals only', ['This is no state of this game']), ('', ['This is no state of this game'])):
@@ -334,6 +351,7 @@ def test_ahead(program, core, room):
     folder.mkdir()
     shutil.copy(core, copy)
     front, second = FrontEnd(core, folder), FrontEnd(copy, folder)
+    second.wanted = AHEAD
     front.load(CART)
     expect('a second instance', second.load(CART), True)
     for number in range(130):
@@ -347,6 +365,71 @@ def test_ahead(program, core, room):
     front.unload()
     expect('one game', (front.told + second.told, shades_of(program, CART, folder / 'demo.gbkeep', room)[1], [path.name for path in folder.iterdir()]),
            ([], 133, ['demo.gbkeep']))
+
+
+def test_twice(program, core, room):
+    """A second load of a game in one process has no SAVE. It is told, unless the front end runs ahead by it; the first one is saved."""
+    folder, copy = room / 'twice', room / 'twice.so'
+    folder.mkdir()
+    shutil.copy(core, copy)
+    front = FrontEnd(core, folder)
+    front.load(CART)
+    for wanted in (WANTED, UNWANTED, None, AHEAD):
+        second = FrontEnd(copy, folder)
+        second.wanted = wanted
+        expect('a second load', second.load(CART), True)
+        second.frames(RIGHT, 130)
+        front.frames(0, 10)
+        second.unload()
+        is_told = wanted != AHEAD
+        expect(f'it is told, {wanted}', (second.told, any('What to do: close this one' in line for line in second.log)), ([TWICE] * is_told, is_told))
+    front.unload()
+    expect('the first one', (front.told, shades_of(program, CART, folder / 'demo.gbkeep', room)[1]), ([], 40))
+
+
+class Logged(list):
+    """A log that goes to the numbers of the standard streams, too, whatever has them."""
+
+    def append(self, line):
+        super().append(line)
+        for stream in (1, 2):
+            with contextlib.suppress(OSError):
+                os.write(stream, f'gbkeep: {line}\n'.encode())
+
+
+def streams(core, cart, folder, told):
+    """Plays and logs, and is killed right behind lines that reach over both roots of a SAVE."""
+    front = FrontEnd(core, folder, messages='all')
+    front.looks, front.log = False, Logged()
+    front.load(cart)
+    for number in range(130):
+        front.frames(number & 0xff, 1)
+        time.sleep(0.002)
+    names = [os.readlink(f'/proc/self/fd/{number}') for number in range(3) if os.path.lexists(f'/proc/self/fd/{number}')]
+    Path(told).write_text('\n'.join([*(name for name in names if name.startswith(os.path.realpath(folder))), str(saves_in(front.told)[-1])]))
+    front.log.append('the end' * 200)
+    os.kill(os.getpid(), signal.SIGKILL)
+
+
+def test_closed_streams(program, core, room):
+    """A front end that is started without standard streams logs to their numbers all the same: nothing of that gets into a file of the core's."""
+    clock = room / 'clock.gb'
+    clock.write_bytes(Assembler().assemble(CLOCK))
+    for cart in (CART, clock):
+        for closed in ('1>&-', '2>&-', '1>&- 2>&-', '0<&- 1>&- 2>&-'):
+            folder, told = room / f'{cart.stem} {closed}', room / 'told'
+            folder.mkdir()
+            save, what = folder / f'{cart.stem}.gbkeep', f'{cart.stem}, {closed}'
+            words = [sys.executable, '-B', __file__, 'streams', core, cart, folder, told]
+            done = subprocess.run(['sh', '-c', f'exec "$@" {closed}', 'sh', *words], stdout=subprocess.DEVNULL, stderr=subprocess.DEVNULL)
+            expect(f'{what}: the status', done.returncode, -signal.SIGKILL)
+            image, (*names, last) = save.read_bytes(), told.read_text().split('\n')
+            expect(f'{what}: both roots', [root_of(image, slot) is not None for slot in (0, 1)], [True, True])
+            expect(f'{what}: what was logged', [path.name for path in folder.iterdir() if b'gbkeep: ' in path.read_bytes()], [])
+            expect(f'{what}: files with their numbers', names, [])
+            expect(f'{what}: its inputs', 60 <= int(last) <= shades_of(program, cart, save, room)[1], True)
+            if cart == clock:
+                expect(f'{what}: SAVE.time', bool(re.fullmatch('([0-9]+ [0-9]+\n){1,2}', Path(f'{save}.time').read_text())), True)
 
 
 def test_memory(program, core, room):
@@ -394,7 +477,7 @@ def test_carts(program, core, room):
         pixels = front.pixels
         front.unload()
         shades, count = shades_of(program, cart, folder / 'Colour Game.gbkeep', room)
-        expect('the picture', pixels, [PALETTES['grey'][shade] for shade in shades])
+        expect('the picture', pixels, [COLOURS['grey'][shade] for shade in shades])
         expect('nothing is told', front.told, [])
     expect('its inputs', count, 2 * 71)
     # an empty file, as a cut leaves it, is taken up; anything else stays
@@ -405,7 +488,9 @@ def test_carts(program, core, room):
     front.load(cart)
     front.unload()
     expect('an empty file', (front.told, sorted(path.name for path in folder.iterdir())), (['resumed 0'], [save.name]))
-    for content, said in ((b'x', 'device size 1: '), (bytes(1024), 'no session: ')):
+    # zeros may be a battery file
+    zeros = [(bytes(size), 'no session: ') for size in (1024, 8192, 32768, os.path.getsize(save))]
+    for content, said in ((b'x', 'device size 1: '), *zeros):
         save.write_bytes(content)
         front = FrontEnd(core, folder)
         front.load(cart)
@@ -417,6 +502,14 @@ def test_carts(program, core, room):
     front.load(cart)
     front.unload()
     expect('a link that leads nowhere', (len(front.told), [path.name for path in folder.iterdir()]), (1, [save.name]))
+    # an empty file with a second name, which would stay empty
+    save.unlink()
+    save.write_bytes(b'')
+    os.link(save, folder / 'second')
+    front = FrontEnd(core, folder)
+    front.load(cart)
+    front.unload()
+    expect('a second name', (len(front.told), save.stat().st_size, save.stat().st_nlink), (1, 0, 2))
 
 
 def test_battery(program, core, room):
@@ -462,6 +555,7 @@ def test_battery(program, core, room):
     front.frames(0, 2)
     front.unload()
     expect('a wrong file', ('battery length 5' in front.told[0], (folder / 'clock.gbkeep').exists()), (True, False))
+    expect('what to do', any('What to do: use the file of this game' in line for line in front.log), True)
     # an import is the program's: the one beside the core, where none is named
     cores = room / 'cores'
     cores.mkdir()
@@ -479,6 +573,25 @@ def test_battery(program, core, room):
     front.load(cart)
     front.unload()
     expect('no program', (any("can't be started" in line for line in front.log), (folder / 'clock.gbkeep').exists()), (True, False))
+    os.environ['GBKEEP'] = program
+
+
+def test_refused_imports(program, core, room):
+    """Each line that the program refuses an import with is told with what to do about it."""
+    folder, refuses = room / 'refused', room / 'refuses'
+    folder.mkdir()
+    (folder / 'demo.srm').write_bytes(b'wrong')
+    refuses.write_text(f"#!/bin/sh\ncat '{room}/line' >&2\nexit 1\n")
+    refuses.chmod(0o755)
+    os.environ['GBKEEP'] = str(refuses)
+    for fault in [fault for fault, of, _, _ in FAULTS if of in ('', 'import')]:
+        line = fault.replace('XX', '1F').replace('N', '12').replace('M', '34')
+        (room / 'line').write_text(f'gbkeep: {line}\n')
+        front = FrontEnd(core, folder, **{'import': 'yes'})
+        front.load(CART)
+        front.unload()
+        advice = explained(line, 'import')[1].replace('`', '')
+        expect(f'what to do: {line}', (len(front.told), any(one.endswith(f'What to do: {advice}.') for one in front.log)), (1, True))
     os.environ['GBKEEP'] = program
 
 
@@ -507,7 +620,9 @@ def test_faults(program, core, room):
     front.unload()
     # a new game takes away the mark of `record`, and no other file
     save.unlink()
-    for mark, stays in (('run.rec\ngbkeep record\n', False), ('mine', True)):
+    digest_of = hashlib.sha256(b'').hexdigest()
+    for mark, stays in (('run.rec\ngbkeep record\n', False), (f'run.rec\ngbkeep record\n0 {digest_of}\n', False), ('mine', True),
+                        (f'run.rec\n0 {digest_of}\n', True), ('run.rec\ngbkeep record\nmine\n', True)):
         (folder / 'demo.gbkeep.recorded').write_text(mark)
         front = FrontEnd(core, folder)
         front.load(CART)
@@ -740,12 +855,63 @@ def test_crafted_times(program, core, room):
         game.time.write_text(content)
         game.play(1)
         expect(content, is_about(game.shown(), 0), True)
-    # a link stays, and what it leads to is replaced
+
+
+def test_files_of_others(program, core, room):
+    """Where others write the folder of SAVE, nothing that they put in the place of SAVE.time leads anywhere else, and none but one's own file is taken."""
+    game, far = Clocked(program, core, room, 'shared'), room / 'far'
+    game.play()
+    held = game.time.read_bytes()
+    far.mkdir()
+    for content in (b'', b'5 1000\n', None):
+        one = far / 'one'
+        if content is not None:
+            one.write_bytes(content)
+        game.time.unlink()
+        game.time.symlink_to(one)
+        before = os.lstat(game.time)
+        told = game.play(65)
+        expect(f'a link to {content!r}: what it leads to', one.read_bytes() if one.exists() else None, content)
+        expect(f'a link to {content!r}: it is told', (told, any('What to do: take it away' in line for line in game.log)), ([STILL], True))
+        expect(f'a link to {content!r}: it stays', (os.lstat(game.time).st_ino, len(list(far.iterdir()))), (before.st_ino, int(one.exists())))
+        one.unlink(missing_ok=True)
     game.time.unlink()
-    game.time.symlink_to('far.time')
-    (game.folder / 'far.time').write_text('')
-    game.play(1)
-    expect('a link', (game.time.is_symlink(), len(game.given_until())), (True, 2))
+    game.time.write_bytes(held)
+    # as backups are made, whose second name keeps what it has
+    os.link(game.time, far / 'backup')
+    expect('one\'s own, with a second name', (game.play(65), (far / 'backup').read_bytes() == held, game.time.read_bytes() == held), ([], True, False))
+    if os.geteuid() != 0:
+        return note('the libretro core, files of other users', 'only root can give them')
+    os.chown(game.time, USER, USER)
+    held = game.time.read_bytes()
+    expect('somebody else\'s', (game.play(65), game.time.read_bytes() == held), ([STILL], True))
+    # of him who has SAVE it is one's own
+    os.chown(game.save, USER, USER)
+    expect('of SAVE\'s owner', (game.play(65), game.time.read_bytes() == held), ([], False))
+
+
+def test_owner(program, core, room):
+    """Root plays a game of a user's: SAVE.time stays the user's, whose clock goes on."""
+    if os.geteuid() != 0:
+        return note('the libretro core, played by root', 'this is another user')
+    room.chmod(0o755)
+    for is_there in (True, False):
+        game = Clocked(program, core, room, f'owned{is_there}')
+        game.play()
+        for path in (game.folder, game.save, game.time):
+            os.chown(path, USER, USER)
+        game.time.chmod(0o600)
+        if not is_there:
+            game.time.unlink()
+        before = os.umask(0o077)
+        game.play()
+        os.umask(before)
+        expect('its owner', [(path.stat().st_uid, path.stat().st_gid) for path in (game.save, game.time)], [(USER, USER)] * 2)
+        expect('its mode', stat.S_IMODE(game.time.stat().st_mode), 0o600)
+        os.seteuid(USER)
+        told = game.play()
+        os.seteuid(0)
+        expect('the user plays', told, [])
 
 
 def test_clock_back(program, core, room):
@@ -892,14 +1058,17 @@ def main():
         return play(*words[1:])
     if len(words) == 5 and words[0] == 'slow':
         return slow(*words[1:])
+    if len(words) == 5 and words[0] == 'streams':
+        return streams(*words[1:])
     if len(words) != 2:
         sys.exit(__doc__)
     program, core = (os.path.abspath(word) for word in words)
     os.environ['GBKEEP'] = program
     with tempfile.TemporaryDirectory(prefix='libretro-') as folder:
         room = Path(folder)
-        tests = (test_play, test_same, test_states, test_ahead, test_memory, test_carts, test_battery, test_faults, test_disk, test_slow, test_power, test_options,
-                 test_clock, test_clock_back, test_crafted_times, test_clock_cut)
+        tests = (test_play, test_same, test_states, test_ahead, test_twice, test_closed_streams, test_memory, test_carts,
+                 test_battery, test_refused_imports, test_faults, test_disk, test_slow, test_power, test_options, test_clock, test_clock_back,
+                 test_crafted_times, test_files_of_others, test_owner, test_clock_cut)
         for test in tests:
             test(program, core, room)
         measure(core, room)

@@ -1,5 +1,6 @@
 #!/usr/bin/env python3
-"""Plays by the core in Debian's RetroArch, on a display of its own: a game in a .zip, states, rewind, reset, running ahead, and one that is killed and goes on.
+"""Plays by the core in Debian's RetroArch, on a display of its own: a game in a .zip, without standard streams, states, rewind, reset, running ahead, and one
+that is killed and goes on.
 
 usage: test_retroarch.py GBKEEP CORE     the status is 1 at the first difference
 
@@ -17,6 +18,7 @@ from pathlib import Path
 
 HERE = Path(__file__).resolve().parent
 from gbkeep import Machine, Session
+from gbkeep.save_files import Cartridge, Refused, looked_at, root_of
 from gbkeep_tests.support import CART, expect, wrong
 from test_libretro import shades_of
 
@@ -58,7 +60,8 @@ class RetroArch:
         shutil.copy(HERE / 'gbkeep_libretro.info', room / 'cores')
         self.process = None
 
-    def start(self, cart, *words, **settings):
+    def start(self, cart, *words, closed='', **settings):
+        """Starts it, without the standard streams that a shell closes by `closed`."""
         with socket.socket(socket.AF_INET, socket.SOCK_DGRAM) as free:
             free.bind(('127.0.0.1', 0))
             self.port = free.getsockname()[1]
@@ -67,7 +70,8 @@ class RetroArch:
         (self.room / 'retroarch.cfg').write_text(''.join(f'{name} = "{value}"\n' for name, value in {**SETTINGS, **folders, **settings}.items()))
         home = str(self.room / 'home')
         self.log = self.room / 'log'
-        self.process = subprocess.Popen(['retroarch', '--config', self.room / 'retroarch.cfg', '--verbose', '-L', self.core, *words, cart], cwd=self.room,
+        shell = ['sh', '-c', f'exec "$@" {closed}', 'sh']
+        self.process = subprocess.Popen([*shell, 'retroarch', '--config', self.room / 'retroarch.cfg', '--verbose', '-L', self.core, *words, cart], cwd=self.room,
                                         env=dict(os.environ, HOME=home, XDG_CONFIG_HOME=home, DISPLAY=self.screen.name), stdout=open(self.log, 'w'), stderr=subprocess.STDOUT)
         return self
 
@@ -157,6 +161,34 @@ def plays(front, program, room):
     expect('all of it is saved', shades_of(program, CART, save, room)[1], front.told())
 
 
+def inputs_in(save):
+    """The count of a SAVE that is being played; 0 where it holds no game."""
+    try:
+        return looked_at(save.read_bytes(), Cartridge(CART.read_bytes()))[0]
+    except (Refused, OSError):
+        return 0
+
+
+def streams(front, program, room):
+    """Started without standard streams, it logs to their numbers all the same: nothing of that gets into a SAVE."""
+    save, count = front.saves / 'demo.gbkeep', 0
+    save.unlink()
+    for closed in ('1>&-', '2>&-', '1>&- 2>&-'):
+        for words in (['--max-frames=200'], []):
+            front.start(CART, *words, closed=closed)
+            if not words:
+                limit = time.monotonic() + 30
+                while time.monotonic() < limit and inputs_in(save) < count + 100:
+                    time.sleep(0.1)
+                front.process.kill()
+            expect(f'{closed}: the end', front.process.wait(120), 0 if words else -signal.SIGKILL)
+            image = save.read_bytes()
+            expect(f'{closed}: both roots', [root_of(image, slot) is not None for slot in (0, 1)], [True, True])
+            expect(f'{closed}: what was logged', [word for word in (b'[INFO]', b'gbkeep: ', b'[libretro') if word in image], [])
+            count, before = shades_of(program, CART, save, room)[1], count
+            expect(f'{closed}: it is saved', count >= before + 100, True)
+
+
 def saved(save):
     """The machine that a SAVE stands for, and the count of its inputs."""
     with Session(CART.read_bytes(), save.read_bytes()) as session:
@@ -234,7 +266,8 @@ def ahead(front, program, room):
             front.process.kill()
             front.process.wait()
             said = front.log.read_text(errors='replace')
-            expect(f'running ahead, {second}', ('[Run-Ahead]' in said, any('refused' in line or 'open elsewhere' in line for line in front.lines())), (False, False))
+            refused = [line for line in front.lines() if any(word in line for word in ('refused', 'open elsewhere', 'twice'))]
+            expect(f'running ahead, {second}', ('[Run-Ahead]' in said, refused), (False, []))
             left = shades_of(program, CART, front.saves / 'demo.gbkeep', room)[1]
             expect('what was told is there', left >= max(told, front.told()), True)
             expect('it goes on', front.play(CART, 70)[0], f'resumed {left}')
@@ -254,7 +287,7 @@ def main():
             room = Path(folder)
             front = RetroArch(core, room, screen)
             try:
-                for test in (plays, states, ahead):
+                for test in (plays, streams, states, ahead):
                     test(front, program, room)
                     print(f'RetroArch: {test.__name__}', flush=True)
             finally:
@@ -262,7 +295,7 @@ def main():
                     front.process.kill()
     finally:
         screen.close()
-    print('RetroArch: a game in a .zip, a SAVE in use, states, rewind, reset, running ahead, killed and gone on')
+    print('RetroArch: a game in a .zip, a SAVE in use, without standard streams, states, rewind, reset, running ahead, killed and gone on')
 
 
 if __name__ == '__main__':

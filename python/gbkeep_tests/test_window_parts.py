@@ -6,7 +6,9 @@ What a person sees of it is tried by test_window.py, which needs pygame and a di
 import contextlib
 import io
 import os
+import re
 import signal
+import subprocess
 import sys
 import tempfile
 import types
@@ -118,10 +120,11 @@ def pygame_of(events, flips):
 EVENTS, FLIPS = [], []
 sys.modules['pygame'] = pygame = pygame_of(EVENTS, FLIPS)
 from gbkeep import window as module  # noqa: E402
+from gbkeep.palettes import NAMES, PALETTES  # noqa: E402
 from gbkeep.window_files import kept_palette  # noqa: E402
 from gbkeep.window_keys import ACTIONS  # noqa: E402
 from gbkeep_tests import support  # noqa: E402
-from gbkeep_tests.support import expect, refusal  # noqa: E402
+from gbkeep_tests.support import TOP, expect, refusal  # noqa: E402
 
 
 def key(name, kind='KEYDOWN'):
@@ -259,6 +262,20 @@ def played(orders, command='stream', last=60, answers=()):
     module.play(window, game, Files())
     done = [(game.done[:at].count('frame'), *(one if isinstance(one, tuple) else (one,))) for at, one in enumerate(game.done) if one != 'frame']
     return done, said, game
+
+
+def test_palettes():
+    """The window, the page and the core have the same palettes, by one order of names."""
+    expect('the window', module.PALETTES, PALETTES)
+    rows = re.search(r'^export const PALETTES = \[\n(.*?)^\];', (TOP / 'web/page/picture.js').read_text(), re.M | re.S)[1]
+    numbers = [int(number, 16) for number in re.findall('0x([0-9a-f]{2})', rows)]
+    expect('the page', numbers, [part for palette in PALETTES for colour in palette for part in colour])
+    offered = re.search('<select id="palette">(.*?)</select>', (TOP / 'web/page/index.html').read_text())[1]
+    expect('what the page offers', re.findall('<option>(.*?)</option>', offered), NAMES)
+    tables = subprocess.run([sys.executable, '-B', TOP / 'players/libretro/tables_h.py'], stdout=subprocess.PIPE, text=True, check=True).stdout
+    colours = re.findall('0x([0-9a-f]{6})', re.search(r'PALETTES\[\]\[4\] = \{\n(.*?)^\};', tables, re.M | re.S)[1])
+    expect('the core', colours, [bytes(colour).hex() for palette in PALETTES for colour in palette])
+    expect('what the core offers', re.findall(r'PALETTE_CHOICE "(.*)"', tables), ['|'.join(NAMES)])
 
 
 def test_rewind():

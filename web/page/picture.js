@@ -3,7 +3,7 @@
 export const WIDTH = 160;
 export const HEIGHT = 144;
 
-/** Darkest first: the green of the handheld, grey, pocket, and night. They are those of the window. */
+/** Darkest first: the green of the handheld, grey, pocket, and night. They are those of python/gbkeep/palettes.py. */
 export const PALETTES = [
   [[0x0f, 0x38, 0x0f], [0x30, 0x62, 0x30], [0x8b, 0xac, 0x0f], [0xe0, 0xf8, 0xd0]],
   [[0x00, 0x00, 0x00], [0x55, 0x55, 0x55], [0xaa, 0xaa, 0xaa], [0xff, 0xff, 0xff]],

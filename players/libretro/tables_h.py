@@ -1,0 +1,26 @@
+"""Prints tables.h, what the core shares with others: the table of faults that docs/COMMANDS.md has, and the palettes of window and page.
+
+usage: tables_h.py > tables.h"""
+import json
+
+from gbkeep.faults import FAULTS
+from gbkeep.palettes import NAMES, PALETTES
+
+
+def quoted(text):
+    return json.dumps(text.replace('`', ''), ensure_ascii=True)
+
+
+print('/* made by tables_h.py of python/gbkeep/faults.py and python/gbkeep/palettes.py */')
+print('struct fault { const char *line, *of, *means, *advice; };')
+print('static const struct fault FAULTS[] = {')
+for line, of, means, advice in FAULTS:
+    print(f'    {{{quoted(line)}, {quoted(of or "")}, {quoted(means)}, {quoted(advice)}}},')
+print('    {0, 0, 0, 0},\n};')
+print('/* darkest first */')
+print('static const uint32_t PALETTES[][4] = {')
+for colours in PALETTES:
+    print(f"    {{{', '.join(f'0x{bytes(colour).hex()}' for colour in colours)}}},")
+print('};')
+print(f"static const char *const PALETTE_NAMES[] = {{{', '.join(map(quoted, NAMES))}}};")
+print(f"#define PALETTE_CHOICE {quoted('|'.join(NAMES))}")
