@@ -63,6 +63,8 @@ help:
 	@echo '                  and looks at what is left (SECONDS=20 a kind)'
 	@echo '  make fuzz       gives it random ROMs, scripts and save files, by another seed'
 	@echo '                  each time (SECONDS=20 in all), and its tools hostile files'
+	@echo '  make faults     makes each call of a tool for a file fail, hang, or be its'
+	@echo '                  last one, and looks at what is left (a quarter of an hour)'
 	@echo '  make strace     compares each write and sync of the save file with a second'
 	@echo '                  writer'
 	@echo '  make memory     refuses each allocation in turn (20 s once both are built)'
@@ -161,6 +163,9 @@ hostile: bin/gbkeep
 fuzz: bin/gbkeep
 	python3 -B scripts/second_storage/hostile.py bin/gbkeep fuzz $(SECONDS)
 	$(PIL_PYTHON) -B scripts/tool_fuzz.py bin/gbkeep 60
+
+faults: bin/gbkeep
+	python3 -B scripts/tool_faults.py bin/gbkeep
 
 strace: bin/gbkeep
 	python3 -B scripts/second_storage/traced.py bin/gbkeep
@@ -307,11 +312,12 @@ test:
 	$(PIL_PYTHON) -B python/gbkeep_tests/test_debug.py $(PROGRAM)/out/gbkeep_program
 	$(PIL_PYTHON) -B python/gbkeep_tests/test_hostile_inputs.py $(PROGRAM)/out/gbkeep_program
 	$(PIL_PYTHON) -B scripts/tool_fuzz.py $(PROGRAM)/out/gbkeep_program 5 1
+	python3 -B scripts/tool_faults.py $(PROGRAM)/out/gbkeep_program 40 1
 	python3 -B scripts/second_storage/refused_memory.py $(PROGRAM)/out/gbkeep_program crates/refused_memory/out/refused_memory
 	RT=$(RT) python3 -B packaging/dist.py passed $(PROGRAM)/out/gbkeep_program
 	@python3 -B scripts/not_tried.py ends
 
-TARGETS := build demo play install uninstall libretro dist run check edits lint test bench compare hostile fuzz strace memory test-window test-libretro library test-library test-arm64 test-packages test-reproducible test-slow-disk test-retroarch test-cards web test-web
+TARGETS := build demo play install uninstall libretro dist run check edits lint test bench compare hostile fuzz faults strace memory test-window test-libretro library test-library test-arm64 test-packages test-reproducible test-slow-disk test-retroarch test-cards web test-web
 FREE := help doctor clean clean-cache
 $(TARGETS): | $(LOOK)
 .PHONY: $(TARGETS) $(FREE) looked

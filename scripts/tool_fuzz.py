@@ -136,6 +136,8 @@ class Room:
         (folder / 'nowhere').symlink_to('missing-target')
         (folder / 'link.rec').symlink_to('run.rec')
         self.kept = {name: (folder / os.fsdecode(name)).read_bytes() for name in os.listdir(os.fsencode(folder)) if self.is_file(name)}
+        # an empty file is as one that is not there
+        self.full = {name for name, data in self.kept.items() if data}
         self.others = {name for name in os.listdir(os.fsencode(folder)) if name not in self.kept}
 
     def command(self, *words: str, typed: bytes = b'') -> None:
@@ -331,15 +333,15 @@ def batteries(rnd, room):
     room.write('fuzzed.rtc', rnd.randbytes(8) if rnd.random() < 0.7 else damaged(rnd, bytes(8)))
     room.write('fuzzed.gbkeep', damaged(rnd, room.kept[rnd.choice([b'run.gbkeep', b'other.gbkeep'])]))
     out, writes = target(rnd, 'made.srm')
-    writes = writes | {os.path.splitext(os.path.basename(out))[0] + b'.rtc'} - room.kept.keys()
+    writes = writes | {os.path.splitext(os.path.basename(out))[0] + b'.rtc'} - room.full
     if rnd.random() < 0.5:
-        return [*bare_words('battery'), 'of-save', maybe(rnd, rnd.choice(['fuzzed.gbkeep', 'run.gbkeep'])), out], b'', writes - room.kept.keys()
+        return [*bare_words('battery'), 'of-save', maybe(rnd, rnd.choice(['fuzzed.gbkeep', 'run.gbkeep'])), out], b'', writes - room.full
     words = [*bare_words('battery'), rnd.choice(['to-mgba', 'to-gambatte', 'from-mgba', 'from-gambatte'])]
     words += rnd.choice([[], ['--now'], ['--time', some_count(rnd)], ['--mbc2'], ['--now', '--mbc2']])
     if rnd.random() < 0.3:
         save = maybe(rnd, 'other.gbkeep')
-        return [*words, maybe(rnd, 'demo.gb'), save, out], b'', writes - room.kept.keys()
-    return [*words, maybe(rnd, 'fuzzed.srm'), out], b'', writes - room.kept.keys()
+        return [*words, maybe(rnd, 'demo.gb'), save, out], b'', writes - room.full
+    return [*words, maybe(rnd, 'fuzzed.srm'), out], b'', writes - room.full
 
 
 TIMES = '''import sys

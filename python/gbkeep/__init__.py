@@ -6,11 +6,16 @@ inputs that are saved the calls of `AnyGame`. A refusal is raised as `Refused`.
 
 The tools, such as `gbkeep-window`, are modules of this package: `python3 -m gbkeep.window`. `gbkeep.env` is an environment for learning, `gbkeep.script` and
 `gbkeep.movie` read and write scripts and movies, `gbkeep.pictures` pictures, and `gbkeep.save_files` is a second reader of save files."""
-from .game import (A, B, DOWN, HEIGHT, LEFT, RIGHT, SELECT, START, UP, WIDTH, DebugMachine, Game, Header, Picture, begin, begin_recording, find_program,
-                   header_of)
-from .library import Call, Machine, Session, Shades, find_library, sectors_needed
-from .machines import SLOTS, AnyGame, AnyMachine, MissingProgram, NoState, Refused
+from . import loading
 
+loading.watch()
+from .game import (A, B, DOWN, HEIGHT, LEFT, RIGHT, SELECT, START, UP, WIDTH, DebugMachine, Game, Header, Picture, begin, begin_recording,  # noqa: E402
+                   find_program, header_of)
+from .library import Call, Machine, Session, Shades, find_library, sectors_needed  # noqa: E402
+from .machines import SLOTS, AnyGame, AnyMachine, MissingProgram, NoState, Refused  # noqa: E402
+from .streams import take_streams  # noqa: E402
+
+take_streams()
 __version__ = '0.1.0'
 __all__ = ['A', 'B', 'DOWN', 'HEIGHT', 'LEFT', 'RIGHT', 'SELECT', 'SLOTS', 'START', 'UP', 'WIDTH', 'AnyGame', 'AnyMachine', 'Call', 'DebugMachine', 'Game',
            'Header', 'Machine', 'MissingProgram', 'NoState', 'Picture', 'Refused', 'Session', 'Shades', 'begin', 'begin_recording', 'find_library',

@@ -9,9 +9,9 @@ usage: gbkeep-battery to-mgba [--now | --time SECONDS] BATTERY OUT            wr
        gbkeep-battery from-.. [..] CART BATTERY SAVE                          as above, and begins a game in the new file SAVE: it is imported on the way
        gbkeep-battery of-save SAVE OUT                                        writes the RAM of the last checkpoint of SAVE, for `gbkeep import`
 
-No OUT may be there. A clock needs a time: --now is the present one, SECONDS are since 1970. mGBA and gambatte add to a clock what has passed since then;
-`gbkeep export` writes 0, since it knows no time. An MBC2 has 512 half bytes: 512 bytes here, 256 of mGBA's, 8,192 of gambatte's, which --mbc2 tells from
-another cartridge of that length (CART does, too).
+No OUT may be there, but for an empty file, which a kill may leave. A clock needs a time: --now is the present one, SECONDS are since 1970. mGBA and
+gambatte add to a clock what has passed since then; `gbkeep export` writes 0, since it knows no time. An MBC2 has 512 half bytes: 512 bytes here, 256 of
+mGBA's, 8,192 of gambatte's, which --mbc2 tells from another cartridge of that length (CART does, too).
 
 of-save needs no ROM, so that it helps where the one that belongs to SAVE is lost or was changed. It prints `checkpoint N`, the count of inputs that the
 RAM is of; `inputs N`, the count of the game's, of which those after the checkpoint are not in it; and `written`, when SAVE was last written."""

@@ -2,19 +2,21 @@
 
 usage: gbkeep-branch CART RECORDING COUNT NEW_SAVE NEW_RECORDING
 
-NEW_SAVE and NEW_RECORDING are made; neither may be there. NEW_RECORDING has as many sectors as RECORDING, which is only read. The new game
-is played by `gbkeep record`, and goes on by it."""
+NEW_SAVE and NEW_RECORDING are made; neither may be there, nor NEW_SAVE.recorded. NEW_RECORDING has as many sectors as RECORDING, which is
+only read. The new game is played by `gbkeep record`, and goes on by it."""
 import contextlib
 import os
 from collections.abc import Iterable, Iterator
 from typing import NoReturn, Optional
 
 from .game import Game, begin, begin_recording
-from .input_files import MOST_SECTORS, SECTOR, PathLike, WrongInput, number, printable
+from .input_files import MOST_SECTORS, SECTOR, PathLike, WrongInput, is_there, number, printable, read_bytes
 from .script import Wrong, inputs_of, is_recording, recorded_moves
 from .tools import WrongWords, operands, run_tool
 
 MOST_INPUTS = 2 ** 64 - 1
+# a mark has the name of a recording and a few words
+MOST_MARK = 1 << 14
 
 
 def first_of(moves: Iterable[tuple], count: int) -> Iterator[tuple]:
@@ -30,27 +32,66 @@ def first_of(moves: Iterable[tuple], count: int) -> Iterator[tuple]:
         raise Wrong(f'RECORDING has {count} inputs fewer')
 
 
+def must_be_free(path: PathLike) -> None:
+    if is_there(path):
+        raise Wrong(f'{printable(path)} exists already: take a name that is free')
+
+
+def mark_of(save: PathLike) -> str:
+    """The name of SAVE.recorded."""
+    return f'{os.path.realpath(os.fsdecode(save))}.recorded'
+
+
+class Made:
+    """The files that were made, so that no other one is removed that has come to their names."""
+
+    def __init__(self):
+        self.files = []
+
+    def note(self, path: PathLike) -> None:
+        with contextlib.suppress(OSError):
+            self.files.append((path, os.lstat(path)))
+
+    def remove(self) -> None:
+        for path, made in self.files:
+            with contextlib.suppress(OSError):
+                if os.path.samestat(os.lstat(path), made):
+                    os.unlink(path)
+
+
 def branch(cart: PathLike, recording: PathLike, count: int, new_save: PathLike, new_recording: PathLike, program: Optional[PathLike] = None) -> int:
     """Begins a game in two new files that has the first `count` inputs of a recording, and answers how many are saved. Where it fails, neither file is left."""
+    mark, made, may_be_marked = mark_of(new_save), Made(), False
+    # the game that is begun would take it away
+    must_be_free(mark)
     # whether there are so many, before anything is made
     for _ in first_of(recorded_moves(cart, recording, program), count):
         pass
-    made = []
     try:
         begin_recording(cart, new_recording, min(os.path.getsize(recording) // SECTOR, MOST_SECTORS), program)
-        made.append(new_recording)
+        made.note(new_recording)
+        must_be_free(mark)
         begin(cart, new_save, program)
-        made += [new_save, f'{os.path.realpath(os.fsdecode(new_save))}.recorded']
+        made.note(new_save)
+        must_be_free(mark)
+        may_be_marked = True
         with Game(cart, new_save, program, recording=new_recording) as game:
             for move in first_of(recorded_moves(cart, recording, program), count):
                 getattr(game, move[0])(*move[1:])
             return game.save()
     except BaseException:
         # they were made for this game alone
-        for path in made:
-            with contextlib.suppress(OSError):
-                os.unlink(path)
+        if may_be_marked and is_mark(mark, new_recording):
+            made.note(mark)
+        made.remove()
         raise
+
+
+def is_mark(mark: str, recording: PathLike) -> bool:
+    """Whether this is the mark of a game that is recorded there."""
+    with contextlib.suppress(WrongInput):
+        return read_bytes(mark, MOST_MARK).split(b'\n')[0] == os.fsencode(recording)
+    return False
 
 
 def main(words: list[str]) -> None:
@@ -65,8 +106,7 @@ def main(words: list[str]) -> None:
     if not is_recording(recording):
         raise Wrong(f'{printable(recording)}: this is no recording')
     for path in (new_save, new_recording):
-        if os.path.lexists(path):
-            raise Wrong(f'{printable(path)} exists already: take a name that is free')
+        must_be_free(path)
     print(f'saved {branch(cart, recording, count, new_save, new_recording)}')
 
 

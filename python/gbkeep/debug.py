@@ -25,7 +25,7 @@ from .input_files import PathLike, WrongInput, number, printable, read_bytes
 from .machines import SLOTS
 from .memory_pictures import MAP_BYTES, MAPS, OAM, OAM_BYTES, REGISTER_BYTES, REGISTERS, VRAM, VRAM_BYTES, Canvas
 from .new_files import Unsafe, new_file
-from .pictures import PNG_HEAD, png_of
+from .pictures import PICTURE_HEADS, PNG_HEAD, png_of
 from .symbols import SWITCHED, Labels, Source, found_labels, found_source, like, quoted
 from .tools import Failed, Words, name_of_tool, run_tool, say
 
@@ -534,7 +534,7 @@ class Session:
         path = Path(few(words, 1, 1)[0])
         data = self.program.ask('picture').encode() + b'\n'
         data += self.program.bytes(PICTURE_BYTES - len(data))
-        return self.written(path, Picture(data).png() if path.suffix == '.png' else data, (b'P2', PNG_HEAD))
+        return self.written(path, Picture(data).png() if path.suffix == '.png' else data, PICTURE_HEADS)
 
     def do_state(self, words):
         path = Path(few(words, 1, 1)[0])

@@ -17,6 +17,7 @@ common with those of the library.
 examples/collect.py is a whole example, and examples/search.py one of a machine."""
 import collections
 import contextlib
+import errno
 import os
 import select
 import shutil
@@ -31,13 +32,13 @@ from typing import TYPE_CHECKING, BinaryIO, NoReturn, Optional, SupportsIndex
 
 from .input_files import MOST_CART, PathLike, printable
 from .machines import NO_STATE, Buffer, Cart, MissingProgram, NoState, Played, Refused, bytes_of
-from .pictures import HEIGHT, SCALE, WIDTH, png_of
+from .pictures import HEIGHT, PICTURE_HEAD, SCALE, WIDTH, png_of
+from .streams import take_streams
 
 if TYPE_CHECKING:
     import numpy
 
 RIGHT, LEFT, UP, DOWN, A, B, SELECT, START = (1 << bit for bit in range(8))
-PICTURE_HEAD = b'P2\n160 144\n3\n'
 PICTURE_BYTES = 46_093
 MOST_FRAMES, MOST_SECONDS = 1_000_000, 0xffff_ffff
 # what a pipe takes at once when it takes anything
@@ -104,6 +105,8 @@ def starting(program: PathLike) -> Iterator[None]:
     try:
         yield
     except OSError as error:
+        if error.errno == errno.ENOMEM:
+            raise MemoryError from None
         raise MissingProgram(program, error.strerror) from None
     except ValueError as error:
         raise Refused(f'a word is no name: {error}', '') from None
@@ -111,6 +114,8 @@ def starting(program: PathLike) -> Iterator[None]:
 
 def started(words: list[str], **how: object) -> subprocess.Popen:
     """A process, of a program that can be run."""
+    # no pipe to it is a stream that something else writes to
+    take_streams()
     with starting(words[0]):
         return subprocess.Popen(words, **how)
 
@@ -165,6 +170,7 @@ def named(cart: Cart) -> Iterator[tuple[str, tuple[int, ...]]]:
 
 def in_memory() -> Optional[BinaryIO]:
     """A file in memory, which a program that is given its descriptor can open by its name; None where the system has none."""
+    take_streams()
     try:
         file = os.fdopen(os.memfd_create('gbkeep'), 'r+b', 0)
     except (AttributeError, OSError):

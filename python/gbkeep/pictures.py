@@ -6,6 +6,8 @@ from collections.abc import Iterator
 
 WIDTH, HEIGHT = 160, 144
 PNG_HEAD, PGM_HEAD = b'\x89PNG\r\n\x1a\n', b'P2'
+# what a picture begins with that the program writes
+PICTURE_HEAD = b'P2\n160 144\n3\n'
 SCALE = 3
 # a picture that is read may be so many times as large as the game's, and has so many samples
 MOST_SCALE, MOST_SAMPLES = 16, 1 << 24
@@ -24,6 +26,16 @@ MOST_DIGITS, MOST_SAMPLE = 9, 65_535
 def chunk(kind: bytes, data: bytes) -> bytes:
     """A part of a PNG."""
     return struct.pack('>I', len(data)) + kind + data + struct.pack('>I', zlib.crc32(kind + data))
+
+
+def png_head(scale: int) -> bytes:
+    """What a PNG of the game's picture begins with, so many times as large."""
+    return PNG_HEAD + struct.pack('>I4sII', 13, b'IHDR', WIDTH * scale, HEIGHT * scale)
+
+
+# what may be there where a picture of the game is written: one of these
+PNG_HEADS = (png_head(1), png_head(SCALE))
+PICTURE_HEADS = (PICTURE_HEAD, *PNG_HEADS)
 
 
 def png_of(shades: bytes, width: int = WIDTH, height: int = HEIGHT, scale: int = SCALE, palette: bytes = b'') -> bytes:

@@ -41,12 +41,11 @@ from concurrent.futures import Future, ThreadPoolExecutor, wait
 from dataclasses import dataclass, replace
 from pathlib import Path
 from typing import IO, NoReturn, Optional
-from xml.sax.saxutils import escape, quoteattr
 
-from .game import HEIGHT, PICTURE_HEAD, WIDTH, Game, Refused, ended, find_program, line_of, started
+from .game import Game, Refused, ended, find_program, line_of, started
 from .input_files import MOST_LINE, PathLike, WrongInput, number, printable, read_bytes, read_text, reason
 from .new_files import Unsafe, check_target, new_file
-from .pictures import PGM_HEAD, PNG_HEAD, png_of, shades_of
+from .pictures import HEIGHT, PICTURE_HEAD, PICTURE_HEADS, PNG_HEADS, WIDTH, png_of, shades_of
 from .script import friendly_moves
 from .tools import Failed, Words, count_word, name_of_tool, run_tool
 
@@ -55,9 +54,8 @@ MOST_JOBS, MOST_CASES = 256, 100_000
 MOST_LIST, MOST_PICTURE = 1 << 22, 1 << 24
 # as many bytes of the memory may be wanted of a ROM
 MOST_BYTES = 64
-# what reports and a picture begin with
+# what reports begin with
 REPORT_HEAD, JSON_HEAD = b'<testsuite', b'{"gbkeep_tests"'
-PICTURE_HEADS = (PGM_HEAD, PNG_HEAD)
 WANTED = {'pass': ('passed',), 'fail': ('failed',), 'undecided': ('undecided',), 'ended': ('passed', 'failed')}
 ROM_SUFFIXES = ('.gb', '.gbc')
 # how long a ROM may take; the program itself always ends
@@ -493,7 +491,7 @@ def leave(case: Case, actual: bytes, wanted: bytes, how: How) -> tuple[tuple[Pat
     for what, data in (('actual', png_of(actual, WIDTH, HEIGHT)), ('difference', difference_of(actual, wanted))):
         path = how.out / f'{name}-{case.number}.{what}.png'
         try:
-            with new_file(path, how.kept.same_as(path), begins=(PNG_HEAD,)) as file:
+            with new_file(path, how.kept.same_as(path), begins=PNG_HEADS) as file:
                 file.write(data)
         except (OSError, Unsafe) as error:
             return tuple(left), f'; not stored: {error if isinstance(error, Unsafe) else reason(error)}'
@@ -536,6 +534,13 @@ def line_of_outcome(one: Outcome, is_terminal: bool) -> str:
     return ('\n     ' if is_terminal else '; ').join([said, *parts])
 
 
+def escaped(text: str) -> str:
+    """A text as XML has it. (The module for that loads whatever Python has for the web, which takes more memory than the rest.)"""
+    for one, other in (('&', '&amp;'), ('<', '&lt;'), ('>', '&gt;'), ('"', '&quot;')):
+        text = text.replace(one, other)
+    return text
+
+
 class Report:
     """A report that is stored at the end. What is said of each ROM waits in a file that has no name, so that many ROMs take no memory."""
     begins = between = b''
@@ -567,15 +572,15 @@ class JunitReport(Report):
     begins = REPORT_HEAD
 
     def row(self, outcome: Outcome) -> str:
-        head = f'  <testcase classname="gbkeep" name={quoteattr(printable(outcome.case.rom, MOST_LINE))} time="{outcome.seconds:.3f}"'
+        head = f'  <testcase classname="gbkeep" name="{escaped(printable(outcome.case.rom, MOST_LINE))}" time="{outcome.seconds:.3f}"'
         if outcome.is_wanted:
             return f'{head}/>\n'
         lines, sent = [outcome.text, *map(printable, outcome.left)], ''
         if outcome.told:
             lines += [f'ended {outcome.told.ended}', f'frames {outcome.told.frames}', outcome.told.registers]
-            sent = f'    <system-out>{escape(outcome.told.sent)}</system-out>\n' if outcome.told.sent else ''
-        text = escape('\n'.join(lines))
-        return f'{head}>\n    <failure message={quoteattr(outcome.text)}>{text}</failure>\n{sent}  </testcase>\n'
+            sent = f'    <system-out>{escaped(outcome.told.sent)}</system-out>\n' if outcome.told.sent else ''
+        text = escaped('\n'.join(lines))
+        return f'{head}>\n    <failure message="{escaped(outcome.text)}">{text}</failure>\n{sent}  </testcase>\n'
 
     def around(self, count: int, failed: int) -> tuple[str, str]:
         return f'<testsuite name="gbkeep" tests="{count}" failures="{failed}">\n', '</testsuite>\n'

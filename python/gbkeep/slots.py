@@ -5,21 +5,23 @@ replaced, in SAVE or in the slot, is kept as SAVE.before, SAVE.before.2 and so o
 
 Each copy is made under a name that nobody has, synced, and only then renamed; before a slot takes the place of SAVE, `gbkeep show` has to take its
 copy. What is replaced is held by the lock that `gbkeep` takes of it, from before it is read until its place is taken durably; a `gbkeep` that opened
-it before sees then that it has no name."""
+it before sees then that it has no name. A SAVE with more names than one is not replaced, since the others would keep the game that goes.
+
+SAVE may be a link, which stays one. Of the files beside it no link is followed, and none of another user is taken: whoever may write the folder could
+have put it there."""
 import contextlib
-import errno
 import fcntl
 import hashlib
 import os
 import re
 import stat
-from collections.abc import Iterator
+from collections.abc import Container, Iterator
 from pathlib import Path
 from typing import Optional
 
 from .game import Refused, run
-from .input_files import MOST_CART, MOST_SAVE, SECTOR, WrongInput, printable, read_bytes, reason
-from .new_files import Unsafe, name_beside, open_new, sync_folder
+from .input_files import MOST_CART, MOST_SAVE, SECTOR, Planted, WrongInput, is_there, open_plain, owners_beside, printable, read_bytes, reason
+from .new_files import Unsafe, give_name, give_owner, has_name, is_locked, name_beside, open_new, sync_folder
 from .timed_game import SaveTime, WrongTime, merged
 
 PIECE = 1 << 20
@@ -42,6 +44,8 @@ def short(path: object) -> str:
 def told_in_a_line() -> Iterator[None]:
     try:
         yield
+    except Planted as error:
+        raise NotReplaced(f'{error}: take it away') from None
     except (Unsafe, WrongInput, WrongTime) as error:
         raise NotReplaced(str(error)) from None
     except OSError as error:
@@ -50,33 +54,21 @@ def told_in_a_line() -> Iterator[None]:
 
 
 class Held:
-    """A plain file that is open, locked as `gbkeep` locks it where a kind of lock is given, and what it held then."""
+    """A plain file that is open, locked as `gbkeep` locks it where a kind of lock is given, and what it held then. With `owners` no link is followed, and the
+    file has to be of one of these users."""
 
-    def __init__(self, path: str, kind: Optional[int] = None):
+    def __init__(self, path: str, kind: Optional[int] = None, owners: Optional[Container[int]] = None):
         self.path = path
-        how = os.O_RDWR if kind == fcntl.LOCK_EX else os.O_RDONLY
-        self.descriptor = os.open(path, how | os.O_NONBLOCK | os.O_CLOEXEC | os.O_NOCTTY)
+        self.descriptor = open_plain(path, owners, os.O_RDWR if kind == fcntl.LOCK_EX else os.O_RDONLY, short(path))
         try:
-            if not stat.S_ISREG(os.fstat(self.descriptor).st_mode):
-                raise NotReplaced(f'{short(path)} is no plain file')
-            if kind is not None:
-                self.lock(kind)
+            if kind is not None and not is_locked(self.descriptor, kind):
+                raise NotReplaced(f'{short(path)} is in use')
             self.status = os.fstat(self.descriptor)
             self.content = self.read()
             self.check()
         except BaseException:
             self.close()
             raise
-
-    def lock(self, kind: int) -> None:
-        try:
-            fcntl.flock(self.descriptor, kind | fcntl.LOCK_NB)
-        except BlockingIOError:
-            raise NotReplaced(f'{short(self.path)} is in use') from None
-        except OSError as error:
-            # a file system without locks protects nothing, and gbkeep goes on there
-            if error.errno not in (errno.EOPNOTSUPP, errno.ENOSYS):
-                raise
 
     def read(self) -> bytes:
         pieces, at = [], 0
@@ -117,9 +109,8 @@ def copy_beside(path: str, content: bytes, like: Held) -> Iterator[str]:
     descriptor = open_new(made, 0o600)
     try:
         with open(descriptor, 'wb') as file:
-            with contextlib.suppress(PermissionError):
-                # where root plays the game of a user, it stays the user's
-                os.fchown(descriptor, like.status.st_uid, like.status.st_gid)
+            # where root plays the game of a user, it stays the user's
+            give_owner(like.status, descriptor)
             os.fchmod(descriptor, stat.S_IMODE(like.status.st_mode) & 0o777)
             file.write(content)
             file.flush()
@@ -131,16 +122,11 @@ def copy_beside(path: str, content: bytes, like: Held) -> Iterator[str]:
 
 
 def name_it(made: str, name: str) -> None:
-    """Gives a copy a name that nobody has: unlike a rename, a link takes the place of nothing."""
+    """Gives a copy a name that nobody has."""
     try:
-        os.link(made, name, follow_symlinks=False)
-    except FileExistsError:
+        give_name(made, name, short(name))
+    except Unsafe:
         raise NotReplaced(f'{short(name)} was made meanwhile by something else') from None
-    except OSError:
-        # a file system without links
-        if os.path.lexists(name):
-            raise
-        os.rename(made, name)
     sync_folder(os.path.dirname(os.path.abspath(name)))
 
 
@@ -156,17 +142,17 @@ class Slots:
         made."""
         with told_in_a_line(), contextlib.ExitStack() as until_done:
             game = until_done.enter_context(Held(self.save))
-            target, old, before = os.path.realpath(self.slot), None, None
-            if os.path.lexists(self.slot):
-                if game.is_at(target):
+            old, before = None, None
+            if is_there(self.slot):
+                if has_name(game.descriptor, self.slot):
                     raise NotReplaced(f'{short(self.slot)} is {short(self.save)} itself')
-                old = until_done.enter_context(Held(target, fcntl.LOCK_EX))
+                old = until_done.enter_context(Held(self.slot, fcntl.LOCK_EX, owners_beside(self.save)))
                 if old.content:
                     self.check_kind(old)
                     before = self.keep_before(old, self.slot, game.content)
-            made = until_done.enter_context(copy_beside(target, game.content, old or game))
+            made = until_done.enter_context(copy_beside(self.slot, game.content, old or game))
             game.check()
-            self.put(made, self.save, self.slot, target, old)
+            self.put(made, self.save, self.slot, self.slot, old)
             return before
 
     def left(self) -> Held:
@@ -178,9 +164,11 @@ class Slots:
         """Puts a copy of the slot in the place of SAVE, whose program has ended. Answers the name of the copy of the game that it replaces, if one was
         made."""
         target = os.path.realpath(self.save)
-        with told_in_a_line(), Held(target, fcntl.LOCK_EX) as old, Held(self.slot, fcntl.LOCK_SH) as slot:
+        with told_in_a_line(), Held(target, fcntl.LOCK_EX) as old, Held(self.slot, fcntl.LOCK_SH, owners_beside(self.save)) as slot:
             if not left.is_at(target) or left.content != old.content:
                 raise NotReplaced(f'{short(self.save)} was changed meanwhile by something else')
+            if old.status.st_nlink > 1:
+                raise NotReplaced(f'{short(self.save)} has {old.status.st_nlink} names, of which the others would keep the game that goes: leave it one name')
             with copy_beside(target, slot.content, old) as made:
                 self.check_game(made)
                 before = self.keep_before(old, self.save, slot.content)
@@ -204,7 +192,8 @@ class Slots:
         """Keeps the game that is about to be replaced, unless what stays is that, or one of the copies is. Answers the name of the copy, if one was
         made."""
         there = self.copies_before()
-        if old.content == stays or any(stands_in(old.content, path, old.path) for path in there.values()):
+        owners = owners_beside(self.save)
+        if old.content == stays or any(stands_in(old.content, path, old.path, owners) for path in there.values()):
             return None
         number = max(there, default=0) + 1
         if number > MOST_COPIES:
@@ -213,7 +202,7 @@ class Slots:
         with copy_beside(self.save, old.content, old) as copy:
             lines = SaveTime(name).read() if self.has_clock else []
             if lines:
-                SaveTime(made).write(lines, must_be_new=True)
+                SaveTime(made, name).write(lines, must_be_new=True)
             name_it(copy, made)
         return made
 
@@ -240,23 +229,23 @@ class Slots:
         else:
             old.check()
             os.replace(made, target)
-            sync_folder(os.path.dirname(target))
+            sync_folder(os.path.dirname(os.path.abspath(target)))
         if lines != replaced:
             # where this fails, what is there is right of the game that has come
             with contextlib.suppress(WrongTime, OSError):
                 time.write(lines) if lines else time.remove()
 
 
-def stands_in(content: bytes, path: str, replaced: str) -> bool:
-    """Whether a file that nobody plays has these bytes, durably, and goes on to have them when another one is replaced: what a link leads to may be that
-    one."""
+def stands_in(content: bytes, path: str, replaced: str, owners: Container[int]) -> bool:
+    """Whether a file that nobody plays has these bytes, durably, and goes on to have them when another one is replaced: a link may lead to that one, and
+    another user may take his file away."""
     try:
-        if os.path.islink(path) or os.path.realpath(path) == replaced or os.path.getsize(path) != len(content):
+        if os.path.realpath(path) == replaced or os.path.getsize(path) != len(content):
             return False
-        with Held(path, fcntl.LOCK_SH) as copy:
+        with Held(path, fcntl.LOCK_SH, owners) as copy:
             if copy.content != content:
                 return False
             os.fsync(copy.descriptor)
             return True
-    except (NotReplaced, OSError):
+    except (NotReplaced, WrongInput, OSError):
         return False

@@ -13,7 +13,7 @@ from collections.abc import Callable
 from typing import Optional
 
 from .game import MOST_SECONDS, Game, header_of
-from .input_files import PathLike, WrongInput, printable, read_text, reason
+from .input_files import PathLike, WrongInput, is_there, owners_beside, printable, read_text, reason
 from .new_files import Unsafe, new_file
 
 # as many inputs as a SAVE may have beyond the last line of SAVE.time where the power was cut
@@ -73,19 +73,21 @@ def merged(some: list[Line], others: list[Line]) -> list[Line]:
 
 
 class SaveTime:
-    """The file SAVE.time."""
+    """The file SAVE.time. It is of the user whose SAVE it lies beside, or of the one whose file `like` is, where SAVE is not there yet."""
 
-    def __init__(self, save: object):
-        self.path = f'{os.fsdecode(save)}.time'
+    def __init__(self, save: object, like: Optional[object] = None):
+        self.path, self.like = f'{os.fsdecode(save)}.time', os.fsdecode(save if like is None else like)
 
     def read(self) -> list[Line]:
         """Its lines; none where it is not there, or empty."""
-        if not os.path.lexists(self.path):
-            return []
         try:
-            text = read_text(self.path, MOST_BYTES)
+            if not is_there(self.path):
+                return []
+            text = read_text(self.path, MOST_BYTES, owners_beside(self.like))
         except WrongInput as error:
             raise WrongTime(str(error)) from None
+        except OSError as error:
+            raise WrongTime(f'{printable(self.path)}: {reason(error)}') from None
         try:
             return lines_of(text) if text else []
         except WrongTime as error:
@@ -95,7 +97,7 @@ class SaveTime:
         """Puts these lines in its place, durably. A file of somebody else's stays, and any file where it must be new."""
         self.read()
         try:
-            with new_file(self.path, text=True, must_be_new=must_be_new) as file:
+            with new_file(self.path, text=True, must_be_new=must_be_new, save=self.like) as file:
                 file.writelines(f'{count} {seconds}\n' for count, seconds in lines)
         except Unsafe as error:
             raise WrongTime(str(error)) from None

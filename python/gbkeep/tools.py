@@ -84,7 +84,6 @@ def run_tool(main: Callable[[list[str]], Optional[int]], usage: Optional[str] = 
     if sys.stdout is None:
         say(f'{name_of_tool()}: standard output is closed')
         sys.exit(1)
-    open_streams()
     for stream in (sys.stdout, sys.stderr):
         if stream is not None:
             stream.reconfigure(errors='backslashreplace')
@@ -106,13 +105,6 @@ def say(line: str) -> None:
     """Says a line on standard error, if it is open."""
     if sys.stderr is not None:
         print(line, file=sys.stderr)
-
-
-def open_streams() -> None:
-    """Opens what is closed of the three streams, so that no file takes its place."""
-    while (descriptor := os.open(os.devnull, os.O_RDWR)) < 3:
-        pass
-    os.close(descriptor)
 
 
 def forget_output() -> None:
@@ -145,7 +137,10 @@ def told(main: Callable[[list[str]], Optional[int]], usage: Optional[str], words
     except OSError as error:
         name = f'{printable(error.filename)}: ' if error.filename is not None else ''
         say(f'{name_of_tool()}: {name}{reason(error)}')
-    except MemoryError:
+    except (MemoryError, RuntimeError) as error:
+        # a thread that can't be begun has no memory for its stack
+        if isinstance(error, RuntimeError) and "can't start new thread" not in str(error):
+            raise
         say(f'{name_of_tool()}: no memory')
     except KeyboardInterrupt:
         return 130

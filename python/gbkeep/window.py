@@ -47,8 +47,8 @@ from .shown_game import Played
 from .slots import short
 from .timed_game import WrongTime
 from .tools import Words, count_word, name_of_tool, say
-from .window_files import (LINE_SECONDS, WARNING_SECONDS, Files, back_to_slot, battery_name, keep_in_slot, keep_palette, kept_palette, leave_picture, own_save,
-                          take_battery, with_recording)
+from .window_files import (LINE_SECONDS, WARNING_SECONDS, Files, back_to_slot, battery_name, keep_in_slot, keep_palette, kept_palette, lasting_name, leave_picture,
+                          own_save, take_battery, with_recording)
 
 os.environ.setdefault('PYGAME_HIDE_SUPPORT_PROMPT', '1')
 os.environ.setdefault('SDL_VIDEO_X11_WMCLASS', 'gbkeep')
@@ -380,7 +380,7 @@ def warning_of(asked: argparse.Namespace) -> Optional[str]:
 
 def run_window(window: Window, asked: argparse.Namespace, save: str) -> None:
     """Plays the game until the window is closed."""
-    recording, is_agreed = asked.record, False
+    recording, is_agreed = lasting_name(save, asked.record) if asked.record else None, False
     if asked.battery:
         is_agreed = take_battery(window, asked.battery, asked.cart, save, asked.gbkeep)
     elif not recording:
@@ -415,7 +415,7 @@ def main() -> int:
         window = Window(asked.scale, keys, palette)
         pygame.display.set_caption(f'gbkeep: {short(save)}')
         if warning_of(asked):
-            print(f'{name_of_tool()}: {warning_of(asked)}', file=sys.stderr)
+            say(f'{name_of_tool()}: {warning_of(asked)}')
         run_window(window, asked, save)
         return 0
     except WrongKeys as wrong:
@@ -433,9 +433,11 @@ def main() -> int:
         line = f'{name_of_tool()}: {printable(error.filename)}: {reason(error)}' if error.filename else f'{name_of_tool()}: {reason(error)}'
     except pygame.error as error:
         line = f'{name_of_tool()}: {printable(error)}'
+    except MemoryError:
+        line = f'{name_of_tool()}: no memory'
     except KeyboardInterrupt:
         return 130
-    print(line, file=sys.stderr)
+    say(line)
     return 1
 
 

@@ -9,8 +9,8 @@ from typing import Optional, Protocol
 
 from .branch import branch
 from .game import Refused, free_name, header_of, run
-from .input_files import MOST_CART, WrongInput, number, printable, read_bytes, read_text, reason
-from .new_files import Unsafe, new_file
+from .input_files import MOST_CART, Planted, WrongInput, number, owners_beside, printable, read_bytes, read_text, reason
+from .new_files import Unsafe, is_free, new_file
 from .shown_game import Played, shown
 from .slots import NotReplaced, Slots, short
 from .timed_game import SaveTime, TimedGame, WrongTime, span
@@ -129,10 +129,10 @@ def keep_palette(palette: int) -> None:
 def leave_picture(window: Shown, game: Played, save: str) -> None:
     """Leaves a picture beside SAVE, under the first name that is free."""
     count = 1
-    while os.path.lexists(f'{save}-{count}.png'):
-        count += 1
     try:
-        with new_file(f'{save}-{count}.png', must_be_new=True) as file:
+        while not is_free(f'{save}-{count}.png'):
+            count += 1
+        with new_file(f'{save}-{count}.png', must_be_new=True, save=save) as file:
             file.write(game.picture().png())
         window.say(f'picture: {short(save)}-{count}.png')
     except Unsafe as error:
@@ -204,12 +204,19 @@ def recording_of(save: str) -> Optional[str]:
     if not os.path.lexists(f'{name}.recorded'):
         return None
     try:
-        given = read_text(f'{name}.recorded', MOST_NAME_BYTES).partition('\n')[0]
+        given = read_text(f'{name}.recorded', MOST_NAME_BYTES, owners_beside(name)).partition('\n')[0]
+    except Planted as error:
+        raise WrongInput(f'{error}: take it away') from None
     except WrongInput:
         given = ''
-    # a name that was given from another folder is looked for beside SAVE
-    beside = os.path.join(os.path.dirname(name), given)
-    return beside if given and os.path.exists(beside) and not os.path.exists(given) else given
+    # a name that is not absolute is one beside SAVE, wherever the window was started
+    return os.path.join(os.path.dirname(name), given) if given else ''
+
+
+def lasting_name(save: str, recording: str) -> str:
+    """The name of a recording as its mark is to have it: one that leads there from SAVE's folder, wherever the window is started the next time."""
+    found = os.path.abspath(recording)
+    return recording if os.path.join(os.path.dirname(os.path.realpath(save)), recording) == found else found
 
 
 def with_recording(window: Shown, save: str) -> tuple[Optional[str], bool]:

@@ -173,6 +173,12 @@ def needs_pil(what: str) -> None:
         raise unittest.SkipTest(f'{what}: {told("PIL")}')
 
 
+def needs_root(what: str) -> None:
+    """Skips the test of that where it is run by another user, who can make no file of somebody else's."""
+    if missing('root'):
+        raise unittest.SkipTest(f'{what}: {told("root")}')
+
+
 def needs_terminal(what: str) -> None:
     """Skips the test of that where no process can have a terminal of its own."""
     if missing('a terminal'):

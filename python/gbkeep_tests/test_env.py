@@ -1,5 +1,5 @@
 """Tries the environments of gbkeep.env on the library: steps, rewards, ends, seeds, states, threads, and the form of Gymnasium, with what the package has of
-its own, with a stand-in for Gymnasium, and with a real one where it is installed.
+its own, with a stand-in for Gymnasium, and with a real one where it is installed; and a session whose process was started with closed streams.
 
 usage: test_env.py [TEST..]     GBKEEP_LIBRARY names the library, or it is bin/libgbkeep.so
 
@@ -9,13 +9,14 @@ import inspect
 import os
 import pickle
 import re
+import shlex
 import subprocess
 import sys
 import threading
 import unittest
 from unittest import mock
 
-from gbkeep import A, DOWN, LEFT, RIGHT, START, UP, Machine, NoState, Refused
+from gbkeep import A, DOWN, LEFT, RIGHT, START, UP, Machine, NoState, Refused, Session
 from gbkeep_tests import support
 from gbkeep_tests.support import CART, TOP, expect
 
@@ -433,6 +434,32 @@ def test_learning(folder):
     expect('the same with other threads', told[0].stdout, told[1].stdout)
     learned, by_chance = map(int, re.fullmatch(r'as learned (\d+) coins in \d+ seconds, by chance (\d+) coins in 60 seconds\n', told[0].stdout).groups())
     expect(f'{learned} coins, {by_chance} by chance', learned >= 30 and learned >= 4 * by_chance, True)
+
+
+# a game on a file of the caller's, while lines are written to the streams
+KEEPS = '''
+import os
+from gbkeep import Session
+with open({save!r}, 'w+b', buffering=0) as file, Session({cart!r}) as session:
+    for _ in range(3):
+        session.frames(1, 10)
+        session.save()
+        session.make_calls(file)
+        for stream in (1, 2):
+            os.write(stream, b'a line of somebody else\\n')
+'''
+
+
+def test_closed_streams(folder):
+    """Where the streams were closed, a file that is opened behind `import gbkeep` has none of their numbers."""
+    save = str(folder / 'game.gbkeep')
+    code = KEEPS.format(save=save, cart=str(CART))
+    for closed in ('>&- 2>&-', '>&- 2>&- <&-'):
+        done = subprocess.run(['sh', '-c', f'{shlex.quote(sys.executable)} -B -c {shlex.quote(code)} {closed}'], timeout=120)
+        left = (folder / 'game.gbkeep').read_bytes()
+        expect(f'{closed}: what is said is in no game', (b'somebody else' in left, done.returncode), (False, 0))
+        with Session(CART, left) as session:
+            expect('a game', session.count, 30)
 
 
 def test_types(folder):

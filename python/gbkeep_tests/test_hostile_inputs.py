@@ -206,7 +206,7 @@ def attack_debugger(room):
         room.refused(f'a picture over {target}', 'debug', '--save', 'run.gbkeep', '--do', f'picture {target}', 'demo.gb', 'demo.sym', but=('run.gbkeep', 'hard.gbkeep'))
     again = room.command('show', 'demo.gb', 'run.gbkeep').stdout.splitlines()
     room.expect('the game', (again[:1], again[-1:]), (shown[:1], shown[-1:]))
-    for target in ('demo.gb', 'demo.sym', 'run.rec', 'fifo'):
+    for target in ('demo.gb', 'demo.sym', 'run.rec', 'fifo', *begun_as_pictures(room)):
         room.refused(f'a picture of no game over {target}', 'debug', '--do', f'picture {target}', 'demo.gb', 'demo.sym')
     for line in (f'step {NINES}', f'until {NINES} 0150', f'memory {NINES} 3', f'list 0150 {NINES}', f'history {NINES}', 'x' * 100_000, 'until \x1b[31m', '\x1b]0;x\x07', f'seconds {NINES}',
                  'picture a\0b', 'picture ' + 'x' * 5000, f'until {"f" * 5000}:4000', f'until-change {NINES} C000', f'over {NINES}', f'out {NINES}', 'tiles a\0b', 'map 9800 ' + 'x' * 5000,
@@ -236,6 +236,17 @@ def attack_debugger(room):
         room.refused(f'the cartridge {cart!r}', 'debug', cart)
 
 
+def begun_as_pictures(room) -> list[str]:
+    """Files that begin as a picture does, and are none of the game's."""
+    rom = bytearray(room.data('demo.gb'))
+    rom[:2] = b'P2'
+    files = {'notes.pgm': b'P2 is the second player\n', 'p2.gb': bytes(rom), 'small.pgm': b'P2\n16 16\n3\n' + b'3 ' * 256, 'grey.pgm': b'P2\n160 144\n255\n' + b'3 ' * (160 * 144),
+             'photo.png': png(640, 480), 'tall.png': png(160, 145), 'cut.png': PNG_HEAD}
+    for name, data in files.items():
+        room.write(name, data)
+    return list(files)
+
+
 def attack_reports(room):
     """--junit and --bless never take a file that is read, or one of another kind."""
     for name in ('passes.gb', 'fails.gb', 'prints.gb'):
@@ -250,7 +261,18 @@ def attack_reports(room):
         before = held(room.folder)
         done = room.run('run_tests', '--bless', 'pictures.txt')
         room.expect(f'a picture stored over {target}', (done.returncode, done.stderr, changes(before, held(room.folder)), done.stdout[:4]), (1, b'', [], b'FAIL'))
+    for target in begun_as_pictures(room):
+        # in a folder of ROMs, and in a list
+        room.write('pictures.txt', f'passes.gb frames=3 picture={target}\n')
+        before = held(room.folder)
+        done = room.run('run_tests', '--bless', 'pictures.txt')
+        told = done.returncode, done.stderr, changes(before, held(room.folder)), b'is another kind of file: take a name that is free' in done.stdout
+        room.expect(f'a picture stored over {target}', told, (1, b'', [], True))
     room.write('pictures.txt', 'demo.gb frames=3 picture=stored.png\ndemo.gb frames=3 picture=stored.pgm\n')
+    for _ in range(2):
+        # the second time over those of the first
+        room.runs('pictures are stored', 'run_tests', '--bless', 'pictures.txt')
+    room.write('stored.png', png())
     room.runs('pictures are stored', 'run_tests', '--bless', 'pictures.txt')
     room.expect('a PNG', room.data('stored.png')[:8], PNG_HEAD)
     room.runs('and are as wanted', 'run_tests', '--junit', 'report.xml', 'pictures.txt')

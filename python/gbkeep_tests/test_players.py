@@ -8,6 +8,7 @@ import io
 import os
 import pty
 import random
+import shlex
 import struct
 import subprocess
 import sys
@@ -35,6 +36,39 @@ def refusal(call):
 def words_of(tool):
     """The words that run a tool of the package, or an example, which is a file."""
     return support.tool_words(tool) if isinstance(tool, str) else [sys.executable, '-B', str(tool)]
+
+
+# writes lines to the streams while a game is played, as the C libraries of a process do
+PLAYS = '''
+import os
+from gbkeep import A, Game
+with Game({cart!r}, {save!r}, {program!r}) as game:
+    for _ in range(3):
+        game.frames(A, 10)
+        for stream in (1, 2):
+            os.write(stream, b'a line of somebody else\\n' * 300)
+    taken = os.open({save!r}, os.O_RDWR)
+    assert taken > 2, taken
+'''
+# the same by the window, over a stand-in for pygame: a picture after another, until it is closed
+SHOWS = '''
+import os, sys, types
+from gbkeep_tests import test_window_parts as parts
+shown = parts.pygame.display.flip
+def flip():
+    shown()
+    for stream in (1, 2):
+        os.write(stream, b'a line of the display\\n')
+parts.pygame.display.flip = flip
+parts.EVENTS += [types.SimpleNamespace(type=kind) for kind in [0] * 30 + [parts.pygame.QUIT]]
+sys.argv = ['gbkeep-window', '--gbkeep', {program!r}, {cart!r}, {save!r}]
+parts.module.start()
+'''
+# what the process has open that starts it
+NOTES = '''#!/bin/sh
+for number in 0 1 2; do readlink /proc/$PPID/fd/$number; done >> {notes}
+exec {program} "$@"
+'''
 
 
 class Room(support.Room):
@@ -96,6 +130,38 @@ def test_game(room):
     expect('a shade', picture.shade(7, 3), int(pgm.split()[4 + 3 * 160 + 7]))
     shown = room.tool(TOP / 'examples/collect.py', room.path('collect.gbkeep'), room.path('collect.png'))
     expect('the example', (shown, room.path('collect.png').read_bytes()[:4]), ('saved 504\n', b'\x89PNG'))
+
+
+def test_closed_streams(room):
+    """Started with closed streams, no tool and no game of Python's has a file or a pipe of its own at their numbers, where whatever is said would go into it."""
+    notes, save = room.path('notes'), room.path('game.gbkeep')
+    program = str(room.write('program', NOTES.format(notes=shlex.quote(str(notes)), program=shlex.quote(room.program)), 0o755))
+    room.write('moves.txt', 'A 30\n')
+    begin(CART, save, room.program)
+    recording, env = room.path('run.rec'), dict(os.environ, GBKEEP=program, XDG_CONFIG_HOME=str(room.path('config')))
+    with Game(CART, room.path('run.gbkeep'), room.program, recording) as game:
+        game.frames(A, 30)
+    named = {name: str(room.path(name)) for name in ('moves.txt', 'made.y4m', 'made.bk2', 'new.gbkeep', 'new.rec', 'made')}
+    code = {'program': program, 'cart': str(CART), 'save': str(save)}
+    runs = [([sys.executable, '-B', '-c', text.format(**code)], '>&- 2>&- <&-') for text in (PLAYS, SHOWS)]
+    for tool, *words in (('script', 'play', CART, save, named['moves.txt']), ('rest', CART, room.path('rest.gbkeep'), named['moves.txt']),
+                         ('film', '--to', '3', CART, named['moves.txt'], named['made.y4m']), ('movie', 'bk2', CART, recording, named['made.bk2']),
+                         ('branch', CART, recording, '20', named['new.gbkeep'], named['new.rec']), ('verify', CART, room.path('run.gbkeep'), recording),
+                         ('battery', 'to-mgba', CART, save, named['made']), ('debug', '--do', 'registers', CART), ('run_tests', TOP / 'examples/test_roms/passes.gb')):
+        runs.append(([*words_of(tool), *words], '2>&- <&-'))
+    for words, closed in runs:
+        notes.unlink(missing_ok=True)
+        before = game_inputs(room, save)
+        line = ' '.join(shlex.quote(str(word)) for word in words)
+        done = subprocess.run(['sh', '-c', f'{line} {closed}'], env=env, cwd=room.folder, capture_output=True, text=True, timeout=120)
+        expect(f'{line[-300:]} {closed}: {done.stdout[-300:]}', done.returncode, 0)
+        streams = set(notes.read_text().split())
+        expect('what has their numbers', {one for one in streams if 'pipe' not in one or '>&- 2' in closed}, {'/dev/null'})
+        expect('the game', game_inputs(room, save) - before >= (30 if '>&- 2' in closed else 0), True)
+
+
+def game_inputs(room, save):
+    return int(run(room.program, 'show', str(CART), str(save)).split()[1])
 
 
 def test_states_of_a_game(room):
@@ -468,6 +534,13 @@ def test_recordings(room):
     expect('its size', branch.stat().st_size, recording.stat().st_size)
     expect('a branch over a file', 'exists already' in room.tool('branch', CART, recording, '3', other, room.path('new.rec')), True)
     expect('and nothing is made', room.path('new.rec').exists(), False)
+    # a mark that another game of this name has left, or whatever else it is
+    for number, mine in enumerate((b'a note of mine\n', b'other.rec\ngbkeep record\n', b'')):
+        mark = room.write(f'marked-{number}.gbkeep.recorded', mine)
+        told = room.tool('branch', CART, recording, '3', room.path(f'marked-{number}.gbkeep'), room.path(f'marked-{number}.rec'))
+        expect('a branch whose mark is there', (told, mark.read_bytes(), sorted(path.name for path in room.folder.glob(f'marked-{number}*'))),
+               (f'{mark} exists already: take a name that is free\n', mine, [mark.name]))
+    ended_branches(room, recording)
     expect('too many', 'has 3 inputs fewer' in room.tool('branch', CART, recording, '107', room.path('far.gbkeep'), room.path('far.rec')), True)
     expect('a film', room.tool('film', '--from', '100', CART, recording, room.path('run.y4m')), '')
     expect('its size', room.path('run.y4m').stat().st_size, len(FILM_HEAD) + 5 * (6 + 160 * 144))
@@ -477,6 +550,26 @@ def test_recordings(room):
         game.frame(A)
     expect('played by another command', refusal(lambda: Game(CART, save, room.program, recording)), 'gbkeep: recording behind, 104 inputs')
     expect('verify then', room.tool('verify', CART, save, recording)[:36], 'gbkeep: recording behind, 104 inputs')
+
+
+def ended_branches(room, recording):
+    """A branch that is ended midway, or whose mark somebody makes meanwhile, takes away what it made, and nothing else."""
+    real = shlex.quote(room.program)
+    for number, (command, mine) in enumerate((('new', b'a note of mine\n'), ('record', b''), ('record', b'a note of mine\n'))):
+        save, stands = room.path(f'ended-{number}.gbkeep'), room.path(f'stands-{number}')
+        mark = room.path(f'{save.name}.recorded')
+        puts = f'printf "%s" {shlex.quote(mine.decode())} > {shlex.quote(str(mark))}' if mine else ':'
+        does = f'{real} "$@"; {puts}; exit' if command == 'new' else f'{puts}; touch {shlex.quote(str(stands))}; exec sleep 60'
+        program = room.write(f'program-{number}', f'#!/bin/sh\nif [ $1 = {command} ]; then {does}; fi\nexec {real} "$@"\n', 0o755)
+        with subprocess.Popen([*words_of('branch'), CART, recording, '50', save, room.path(f'ended-{number}.rec')], env=dict(os.environ, GBKEEP=str(program)),
+                              stdout=subprocess.PIPE, stderr=subprocess.STDOUT, text=True) as process:
+            if command == 'record':
+                support.until('the program', stands.exists)
+                process.terminate()
+            told = process.communicate()[0], process.returncode
+        expect('a branch that is ended', told, (f'{mark} exists already: take a name that is free\n', 1) if command == 'new' else ('', 143))
+        left = {path.name: path.read_bytes()[:99] for path in room.folder.glob(f'ended-{number}*')}
+        expect(f'{command}: what it leaves', left, {mark.name: mine} if mine else {})
 
 
 def test_a_branch_of_the_window(room):

@@ -8,6 +8,7 @@ import os
 import pty
 import re
 import resource
+import shlex
 import shutil
 import subprocess
 import sys
@@ -378,6 +379,30 @@ def test_memory(room):
     expect('the report', (len(report), report[399].findtext('system-out')), (400, f'({200_000_000 - KEPT:,} bytes before this are left out)\n' + 'x' * KEPT))
     used = resource.getrusage(resource.RUSAGE_CHILDREN).ru_maxrss
     expect(f'the memory that is used, {used:,} KiB', used <= MOST_MEMORY, True)
+
+
+def test_little_memory(room):
+    """A run that finds no memory says so in a line, wherever it finds none: as it is loaded, as it begins a thread or a program, or in play."""
+    unbounded = str(room.write('unbounded', f'#!/bin/sh\nulimit -S -v unlimited\nexec {shlex.quote(room.program)} "$@"\n', 0o755))
+    room.write('list.txt', 'passes.gb\n' * 9)
+    told, most = set(), resource.getrlimit(resource.RLIMIT_AS)[1]
+
+    def ran(size, words):
+        return subprocess.run(words, cwd=room.folder, capture_output=True, text=True, timeout=SECONDS, preexec_fn=lambda: resource.setrlimit(resource.RLIMIT_AS, (size << 10, most)))
+
+    def loads(size):
+        return ran(size, [sys.executable, '-B', '-c', 'import gbkeep.run_tests']).returncode == 0
+    # what this Python can just load it in: in far less Python itself does not begin
+    least = next(size for size in (40_000, 80_000, 160_000, 320_000) if loads(size))
+    while loads(least - 2_000):
+        least -= 2_000
+    for size in (*range(least - 2_000, least + 12_000, 2_000), least + 20_000, least + 40_000):
+        done = ran(size, room.words('-j', '2', '--junit', f'report-{size}.xml', 'list.txt', program=unbounded))
+        lines = done.stderr.splitlines()
+        is_done = done.stdout.endswith('9 as wanted, 0 failed\n')
+        expect(f'in {size:,} KiB: {done.stderr[-300:]}', (done.returncode, len(lines), room.path(f'report-{size}.xml').exists()), (0, 0, True) if is_done else (1, 1, False))
+        told.update(line.rpartition(': ')[2] for line in lines)
+    expect('what is said', told, {'no memory'})
 
 
 if __name__ == '__main__':

@@ -16,15 +16,20 @@ import types
 from pathlib import Path
 
 from gbkeep_tests import support
-from gbkeep_tests.support import CART, DAY, TOP, clock_cart, clock_shown, expect, seconds_shown, wrong
+from gbkeep_tests.support import CART, DAY, TOP, clock_cart, clock_shown, expect, needs_root, seconds_shown, wrong
 from gbkeep import slots as slots_module
 from gbkeep.game import A, LEFT, RIGHT, Game, Refused, begin, header_of, run
 from gbkeep.input_files import WrongInput
+from gbkeep.new_files import Unsafe, new_file
 from gbkeep.slots import NotReplaced, Slots
 from gbkeep.timed_game import INPUTS_BETWEEN, YEAR, SaveTime, TimedGame, WrongTime, given_until, lines_of, merged, span
-from gbkeep.window_files import (back_to_slot, battery_name, keep_in_slot, keep_palette, kept_palette, leave_picture, own_save, recording_of, take_battery,
-                          with_recording)
+from gbkeep.window_files import (back_to_slot, battery_name, keep_in_slot, keep_palette, kept_palette, lasting_name, leave_picture, own_save, recording_of,
+                          take_battery, with_recording)
 
+
+
+# a user that is not root
+USER = 4_000
 
 
 def refusal(call):
@@ -124,6 +129,23 @@ def killed_at(point, names, call):
     return os.WIFSIGNALED(status)
 
 
+def as_user(room, call):
+    """Does this as another user, in a process of its own, with a program that he can run."""
+    program, room.program = room.program, shutil.copy(room.program, room.path('program'))
+    os.chmod(room.program, 0o755)
+    child = os.fork()
+    if child == 0:
+        with contextlib.suppress(BaseException):
+            os.setgroups([])
+            os.setgid(USER)
+            os.setuid(USER)
+            call()
+            os._exit(0)
+        os._exit(1)
+    room.program = program
+    expect('what the user does', os.WEXITSTATUS(os.waitpid(child, 0)[1]), 0)
+
+
 def until_free(save):
     """Waits until no program holds SAVE."""
     with open(save, 'rb') as file:
@@ -194,17 +216,126 @@ def test_links_that_seem_copies(room):
     os.symlink('led.gbkeep', f'{save}.before')
     expect('past the link', room.goes_back(save, 20), f'{save}.before.2')
     expect('the game before', room.inputs(f'{save}.before.2'), 30)
-    # a slot that leads to a copy
-    os.remove(f'{save}.slot')
-    os.symlink('led.gbkeep.before.2', f'{save}.slot')
-    expect('the slot before', room.keeps(save), f'{save}.before.3')
-    expect('it stands there', (room.inputs(f'{save}.before.3'), room.inputs(f'{save}.before.2')), (30, 10))
     # a slot that is SAVE itself
     other = room.game('itself.gbkeep', 10)
-    os.symlink('itself.gbkeep', f'{other}.slot')
+    os.link(other, f'{other}.slot')
     expect('a slot that is SAVE', refusal(lambda: room.keeps(other)), 'itself.gbkeep.slot is itself.gbkeep itself')
     expect('back to itself', 'in use' in refusal(lambda: room.goes_back(other)), True)
     expect('untouched', room.inputs(other), 10)
+
+
+def test_planted_links(room):
+    """A link that somebody has put beside SAVE leads to no other game and no other clock."""
+    os.mkdir(room.path('shared'))
+    save, mine, names = room.game('shared/run.gbkeep', 10, room.clock_cart), room.game('mine.gbkeep', 33, room.clock_cart), (room.folder, room.path('shared'))
+    clock = room.write('mine.gbkeep.time', '33 1000\n')
+    slots, held = room.slots(save, has_clock=True), (mine.read_bytes(), clock.read_bytes())
+
+    def there():
+        return {path.name for folder in names for path in folder.iterdir()}
+
+    def keep():
+        with Game(room.clock_cart, save, room.program):
+            return slots.keep()
+
+    def back():
+        with slots.left() as left:
+            return slots.go_back(left)
+    os.symlink(mine, f'{save}.slot')
+    before = there()
+    for call in (keep, back):
+        expect('a planted slot', (refusal(call), (mine.read_bytes(), clock.read_bytes()) == held, there() == before),
+               ('run.gbkeep.slot: this is a link, and none is followed here: take it away', True, True))
+    os.unlink(f'{save}.slot')
+    # the clocks of SAVE, of its slot, and of a copy that is replaced
+    times = Times(5_000)
+    for name in (f'{save}.time', f'{save}.slot.time'):
+        os.symlink(clock, name)
+        with times.open(room, save) as game:
+            times.passes(50)
+            game.save_all()
+            if name == f'{save}.time':
+                expect('a planted clock', ('none is followed here' in game.notice, 'Take that file away' in game.notice, seconds_shown(game)), (True, True, 0))
+        said = refusal(keep)
+        expect(f'{name}: the clock', ('this is a link, and none is followed here' in str(said), clock.read_bytes() == held[1], os.readlink(name)), (True, True, str(clock)))
+        os.unlink(name)
+        room.path('shared/run.gbkeep.slot').unlink(missing_ok=True)
+    expect('and without it', (keep(), mine.read_bytes() == held[0]), (None, True))
+    # the mark of a recorded game
+    room.write('mine.gbkeep.recorded', f'{room.path("mine.rec")}\ngbkeep record\n')
+    os.symlink(room.path('mine.gbkeep.recorded'), f'{save}.recorded')
+    expect('a planted mark', refusal(lambda: with_recording(Window(True), str(save))), f'{save}.recorded: this is a link, and none is followed here: take it away')
+
+
+def test_files_of_other_users(room):
+    """What another user has put beside SAVE is not taken; what belongs to the user whose SAVE it is stays his, also where root plays it."""
+    needs_root('slots, files of other users')
+    save, slots, times = room.game('run.gbkeep', 10, room.clock_cart), room.slots(room.path('run.gbkeep'), has_clock=True), Times(5_000)
+    with times.open(room, save) as game:
+        game.save_all()
+        slots.keep()
+    for path in room.folder.glob('run.gbkeep*'):
+        os.chown(path, USER, USER)
+    os.chown(room.folder, USER, USER)
+
+    def owners():
+        return {path.name: path.stat().st_uid for path in room.folder.glob('run.gbkeep*')}
+
+    def plays():
+        times.passes(100)
+        with times.open(room, save) as game:
+            game.frames(A, 5)
+            game.save_all()
+            slots.keep()
+            leave_picture(Window(), game, str(save))
+            left, trouble = slots.left(), game.notice or game.trouble
+            game.frames(A, 5)
+            game.save_all()
+            left.close()
+            left = slots.left()
+        with left:
+            slots.go_back(left)
+        return trouble
+    expect('root plays', (plays(), set(owners().values()), len(owners()) > 6), (None, {USER}, True))
+    # the clock of the user goes on
+    def user_plays():
+        with times.open(room, save) as game:
+            before = seconds_shown(game)
+            times.passes(60)
+            game.save_all()
+            expect('his clock', (seconds_shown(game) - before, game.notice, game.trouble), (60, None, None))
+    as_user(room, user_plays)
+    # a slot, a copy and a clock of a third user's
+    for end, why in (('.slot', None), ('.time', 'clock')):
+        os.chown(f'{save}{end}', USER + 1, USER + 1)
+        held = room.path(f'run.gbkeep{end}').read_bytes()
+        with times.open(room, save) as game:
+            said = str(game.notice) if why else refusal(slots.keep)
+        expect(f'{end} of another user', ('this file is of another user, and is not taken' in said, room.path(f'run.gbkeep{end}').read_bytes() == held), (True, True))
+        os.chown(f'{save}{end}', USER, USER)
+    # a copy that another user may take away is no place where the game stands
+    before = sorted(room.folder.glob('run.gbkeep.before*'))
+    for path in before:
+        path.unlink()
+    os.chown(shutil.copy(save, f'{save}.before'), USER + 1, USER + 1)
+    with slots.left() as left:
+        expect('past the copy of another user', slots.go_back(left), f'{save}.before.2')
+
+
+def test_a_game_with_two_names(room):
+    """A SAVE with another name is not replaced: whoever plays it by that name would go on with the game that is gone from here."""
+    save = room.game('named.gbkeep', 10)
+    room.keeps(save)
+    other, there = room.path('other name.gbkeep'), None
+    os.link(save, other)
+    there = room.there('')
+    expect('back', refusal(lambda: room.goes_back(save, 7)), 'named.gbkeep has 2 names, of which the others would keep the game that goes: leave it one name')
+    expect('one file, and nothing else', (os.path.samefile(save, other), room.there('')), (True, there))
+    with Game(CART, save, room.program) as game:
+        game.frames(A, 3)
+    expect('the other name has what is saved', room.inputs(other), 20)
+    os.unlink(other)
+    expect('one name', (room.goes_back(save), room.inputs(save)), (f'{save}.before', 10))
 
 
 def test_names_of_others(room):
@@ -256,10 +387,6 @@ def test_links_and_modes(room):
     os.chmod(f'{save}.slot', 0o640)
     room.keeps(save, 5)
     expect('the slot has its own', stat.S_IMODE(os.stat(f'{save}.slot').st_mode), 0o640)
-    os.rename(f'{save}.slot', room.path('far/slot'))
-    os.symlink('far/slot', f'{save}.slot')
-    room.keeps(save, 5)
-    expect('a slot that is a link', (os.readlink(f'{save}.slot'), room.inputs(room.path('far/slot'))), ('far/slot', 20))
 
 
 def test_wrong_slots(room):
@@ -612,13 +739,12 @@ def test_crafted_times(room):
             game.save_all()
             expect('no file', ('no time' in game.notice, seconds_shown(game)), (True, 0))
         clock.rmdir() if clock.is_dir() and not clock.is_symlink() else clock.unlink()
-    # a link to a plain file stays one, and an empty file holds nothing
-    os.symlink('far.time', clock)
-    room.write('far.time', '')
+    # an empty file holds nothing
+    clock.write_text('')
     times.passes(10)
     with times.open(room, save) as game:
         game.save_all()
-    expect('a link stays', (os.readlink(clock), bool(lines_of(room.path('far.time').read_text()))), ('far.time', True))
+    expect('an empty file', (game.notice, bool(lines_of(clock.read_text()))), ("There is no SAVE.time: the cartridge's clock goes on from where it stood.", True))
     # what holds the most and the least
     clock.unlink()
     for content in ('0 0\n', '18446744073709551615 99999999999\n', '0 99999999999\n', '18446744073709551615 0\n'):
@@ -633,6 +759,80 @@ def test_crafted_times(room):
     expect('merged, the newer has fewer', merged([(100, 7)], [(5, 10)]), [(5, 10)])
     expect('spans', [span(seconds) for seconds in (0, 1, 61, 3600, 2 * 365 * DAY + 5)],
            ['0 seconds', '1 second', '1 minute and 1 second', '1 hour', '2 years and 5 seconds'])
+
+
+# ---- new files
+
+
+def test_new_names(room):
+    """A file whose name must be new, killed at each point, leaves no empty file, and the next run makes it; where the file system has no links, the next run
+    takes up the empty one. What anybody else has put there stays."""
+    umask = os.umask(0)
+    os.umask(umask)
+    real, points = os.link, ('open', 'write', 'fsync', 'link', 'replace', 'unlink', 'close')
+
+    def makes(name, data=b'a battery'):
+        def call():
+            with new_file(room.path(name), must_be_new=True) as file:
+                file.write(data)
+        return call
+
+    def no_links(*words, **more):
+        raise OSError(1, 'Operation not permitted')
+    for has_links in (True, False):
+        os.link, seen, point, is_killed = real if has_links else no_links, set(), 0, True
+        try:
+            while is_killed:
+                out = room.path(f'out-{has_links}-{point}')
+                is_killed = killed_at(point, points, makes(out.name))
+                seen.add(out.read_bytes() if out.exists() else None)
+                if out.exists() and out.read_bytes():
+                    expect('it is whole, and stays', 'exists already' in str(support.refusal(makes(out.name, b'another'), Unsafe)), True)
+                else:
+                    makes(out.name)()
+                expect(f'behind a kill at {point}', (out.read_bytes(), stat.S_IMODE(out.stat().st_mode)), (b'a battery', 0o666 & ~umask))
+                point += 1
+            expect('what kills leave', (seen, point > 6), ({None, b'a battery'} if has_links else {None, b'', b'a battery'}, True))
+            # a name that is taken while the file is written, by whatever it is
+            for number, take in enumerate((lambda path: path.write_bytes(b'mine'), lambda path: path.symlink_to('nowhere'), lambda path: path.symlink_to('theirs'),
+                                           lambda path: path.mkdir(), os.mkfifo)):
+                room.write('theirs', '')
+                out = room.path(f'taken-{has_links}-{number}')
+
+                def taken():
+                    with new_file(out, must_be_new=True) as file:
+                        file.write(b'a battery')
+                        take(out)
+                before = room.there('.gbkeep')
+                expect(f'{number}: refused', bool(support.refusal(taken, Unsafe)), True)
+                expect('what has the name', (out.is_symlink() or out.is_dir() or out.is_fifo() or out.read_bytes() == b'mine', room.path('theirs').read_bytes(),
+                                             room.path('nowhere').exists(), room.there('.gbkeep')), (True, b'', False, before))
+        finally:
+            os.link = real
+    # an empty file that another program is about to replace
+    with open(room.path('claimed'), 'wb') as file:
+        fcntl.flock(file, fcntl.LOCK_EX)
+        expect('a claim', 'exists already' in str(support.refusal(makes('claimed'), Unsafe)), True)
+
+
+def test_killed_pictures(room):
+    """A picture that is killed at any point leaves none that is empty."""
+    save = str(room.game('seen.gbkeep', 1))
+    with Game(CART, save, room.program) as game:
+        shades = game.picture()
+        still, point, is_killed = types.SimpleNamespace(picture=lambda: shades), 0, True
+        while is_killed:
+            is_killed = killed_at(point, ('open', 'fsync', 'replace', 'link', 'unlink', 'close'), lambda: leave_picture(Window(), still, save))
+            expect(f'killed at {point}', {path.stat().st_size > 0 for path in room.folder.glob('seen.gbkeep-*.png')} <= {True}, True)
+            point += 1
+    expect('points', point > 6, True)
+    # one that an earlier kill has left is taken up
+    for path in room.folder.glob('seen.gbkeep-*.png'):
+        path.unlink()
+    room.write('seen.gbkeep-1.png', '')
+    window = Window()
+    leave_picture(window, still, save)
+    expect('an empty one', (window.said, room.path('seen.gbkeep-1.png').read_bytes()[:4]), (['picture: seen.gbkeep-1.png'], b'\x89PNG'))
 
 
 # ---- the window's files
@@ -746,6 +946,23 @@ def test_recorded(room):
         expect('asked', (with_recording(window, str(save)), str(recording) in window.asked[0]), ((str(recording), agrees), True))
     mark.write_text('run.rec\n')
     expect('beside SAVE', recording_of(str(save)), str(recording))
+    # another play's, of the same name, where the window is started
+    elsewhere, before = room.path('elsewhere'), os.getcwd()
+    elsewhere.mkdir()
+    shutil.copy(recording, elsewhere)
+    os.chdir(elsewhere)
+    try:
+        expect('started elsewhere', recording_of(str(save)), str(recording))
+        for given, wanted in (('run.rec', str(elsewhere / 'run.rec')), ('../run.rec', str(recording)), (str(recording), str(recording))):
+            expect(f'{given}: its name in the mark', lasting_name(str(save), given), wanted)
+        os.chdir(room.folder)
+        expect('one beside SAVE stays as it is given', lasting_name('run.gbkeep', 'run.rec'), 'run.rec')
+        os.chdir(elsewhere)
+        recording.rename(room.path('moved.rec'))
+        expect('there is none beside SAVE', 'is not there' in str(refusal(lambda: with_recording(Window(True), str(save)))), True)
+    finally:
+        os.chdir(before)
+        room.path('moved.rec').rename(recording)
     os.symlink(save, room.path('link.gbkeep'))
     expect('by a link', recording_of(str(room.path('link.gbkeep'))), str(recording))
     for content in ('', '\n', '/nowhere\n', 'x' * 20_000, b'\xff\n', 'a\0b\n'):

@@ -84,9 +84,10 @@ class Screen:
 class Player:
     """A window that is open."""
 
-    def __init__(self, screen, gbkeep, save, cart=DEMO / 'demo.gb', *more):
+    def __init__(self, screen, gbkeep, save, cart=DEMO / 'demo.gb', *more, closed=''):
         self.screen, self.save = screen, save
-        self.process = subprocess.Popen([*tool_words('window'), '--gbkeep', gbkeep, *more, cart, *([save] if save else [])], env=screen.env,
+        redirected = ['sh', '-c', f'exec "$@" {closed}', 'sh'] if closed else []
+        self.process = subprocess.Popen([*redirected, *tool_words('window'), '--gbkeep', gbkeep, *more, cart, *([save] if save else [])], env=screen.env,
                                         start_new_session=True, stdout=subprocess.PIPE, stderr=subprocess.STDOUT, text=True)
         self.window = None
         self.find()
@@ -282,6 +283,19 @@ def test_look(open_window, screen, room, gbkeep):
         screen.keys('key', 'x')
         player.ended(1, 'gbkeep: device failed')
     print('shown: pause, fast, picture, fault; Ctrl-C saves and ends')
+
+
+def test_closed_streams(open_window, screen, room, gbkeep):
+    """Where the streams were closed, neither the display nor a program of the window's has one of their numbers."""
+    save = room / 'closed.gbkeep'
+    player = open_window(save, closed='>&- 2>&- <&-')
+    player.until_saved(60)
+    streams = {os.readlink(f'/proc/{player.process.pid}/fd/{number}') for number in range(3)}
+    if streams != {'/dev/null'}:
+        wrong(f'what has the numbers of the streams: {streams}')
+    player.process.send_signal(signal.SIGTERM)
+    if player.process.wait(timeout=20) != 0 or int(run(str(gbkeep), 'show', str(DEMO / 'demo.gb'), str(save)).split()[1]) <= 60:
+        wrong('the game does not go on')
 
 
 def test_clock(open_window, screen, room, gbkeep):
@@ -620,8 +634,8 @@ def main():
     with tempfile.TemporaryDirectory(prefix='window-') as place:
         screen = Screen(place)
 
-        def open_window(save, *cart):
-            players.append(Player(screen, gbkeep, save, *cart))
+        def open_window(save, *cart, **how):
+            players.append(Player(screen, gbkeep, save, *cart, **how))
             return players[-1]
 
         def given(folder):
