@@ -1,10 +1,10 @@
 -- The steps of hashing the first inputs of a recording.
-use Rattle.std.proofs.Common.{◌≡◌, ◌∙◌, ℕ, ◌-◌, ◌≤◌, min, List, [], ◌∷◌, ◌++◌, length, take, replicate, refl, sym, ap, subst, arith, append_assoc, append-nil, length-append}
+use Rattle.std.proofs.Common.{◌≡◌, ◌∙◌, ℕ, ◌-◌, ◌≤◌, min, List, [], ◌++◌, length, take, replicate, sym, ap, subst, arith, append_assoc, append-nil, length-append}
 use Rattle.std.proofs.Math.Seq.{take-nil}
-use Rattle.std.proofs.lemmas.List.{take_all, take_min, take-replicate, length-replicate}
+use Rattle.std.proofs.lemmas.List.{take_min, take-replicate, length-replicate}
 use Rattle.sha2.specs.Hashers.{Holds256}
 use Rattle.sha2.specs.declared.Sha256.{Sha256}
-use Rattle.input_entries.specs.Inputs.{frame, seconds}
+use Rattle.input_entries.specs.Inputs.{frame}
 use Rattle.input_entries.specs.declared.Entry.{Entry}
 use Rattle.recording_marks.specs.Digests.{bytes_of, HasHashed}
 use Rattle.recording_marks.proofs.Bytes.{bytes-append, take_parts}
@@ -38,18 +38,4 @@ hashed_frames old now buttons times most count count_is given =
     record {
       hashed = λ m holds. subst (λ (l : List Entry). Holds256 now (m ++ bytes_of l)) (taken ∙ cut) (given m holds);
       left_is = omega (arith, count_is, length-replicate times (frame buttons));
-    }
-
-pub hashed_no_seconds : (s : Sha256) (most n : ℕ) → most ≡ 0 → HasHashed s s most 0 (seconds n ∷ [])
-hashed_no_seconds s most n none = record {
-  hashed = λ m holds. subst (λ (k : ℕ). Holds256 s (m ++ bytes_of (take k (seconds n ∷ [])))) (sym none) (subst (λ (l : List ℕ). Holds256 s l) (sym (append-nil m)) holds);
-  left_is = omega arith;
-}
-
-pub hashed_seconds : (old now : Sha256) (most n : ℕ) → 1 ≤ most → ((m : List ℕ) → Holds256 old m → Holds256 now (m ++ (seconds n).code)) → HasHashed old now most (most - 1) (seconds n ∷ [])
-hashed_seconds old now most n some given =
-    let whole : take most (seconds n ∷ []) ≡ seconds n ∷ [] = take_all most (seconds n ∷ []) (omega arith) in
-    record {
-      hashed = λ m holds. subst (λ (l : List ℕ). Holds256 now (m ++ l)) (sym (append-nil (seconds n).code) ∙ ap bytes_of (sym whole)) (given m holds);
-      left_is = refl;
     }
