@@ -84,7 +84,8 @@ help:
 	@echo '                  plays in the window and by the core while each sync takes'
 	@echo '                  300 ms (a minute)'
 	@echo '  make test-web   plays by the page in Chromium, kills it, and gives it wrong'
-	@echo '                  files, a full disk and no network (eight minutes)'
+	@echo '                  files, a full disk, no network and calls that fail (fifteen'
+	@echo '                  minutes)'
 	@echo '  make test-arm64 runs the program for aarch64 by qemu: tests, damaged files,'
 	@echo '                  comparisons, games from one processor to the other'
 	@echo '                  (SECONDS=20 a kind; after make build ARCH=arm64)'
@@ -218,6 +219,9 @@ test-web: bin/gbkeep dist/web/gbkeep.wasm
 	CC="$(CC)" python3 -B web/test_heap.py
 	python3 -B web/test_module.py
 	$(WEB_PYTHON) -B web/test_web.py bin/gbkeep
+	$(WEB_PYTHON) -B web/test_kept_games.py bin/gbkeep
+	$(WEB_PYTHON) -B web/test_versions.py bin/gbkeep
+	$(WEB_PYTHON) -B web/test_page_faults.py bin/gbkeep
 
 dist: $(OUT)/gbkeep $(OUT)/libgbkeep.so $(if $(wildcard $(LIBRETRO)/libretro.h),$(OUT)/gbkeep_libretro.so)
 	RT=$(RT) python3 -B packaging/dist.py $(ARCH)

@@ -294,8 +294,23 @@ def link(kit, room, text):
 
 # ---- the folder
 
-def leave(module):
-    """Puts the page and the module into dist/web, in one piece."""
+def page_files():
+    """The names of the files of a page that it needs without a network, but for the list of them."""
+    names = {path.name for path in (WEB / 'page').iterdir()} | {'gbkeep.wasm', 'demo.gb', 'faults.js'}
+    return sorted(names - {'README', 'service_worker.js'})
+
+
+def list_files(folder):
+    """Writes the list of a page's files: the SHA-256 of each, and a version, which is another one where any of them is."""
+    digests = {name: hashlib.sha256((folder / name).read_bytes()).hexdigest() for name in page_files()}
+    files = {'./': digests['index.html'], **digests}
+    version = hashlib.sha256(json.dumps(files).encode()).hexdigest()[:16]
+    (folder / MARK).write_text('// Made by scripts/web.py: what the page needs without a network, and what each file is.\n/* exported FILES, VERSION */\n'
+                               f'const VERSION = {json.dumps(version)};\nconst FILES = {json.dumps(files)};\n', encoding='utf-8')
+
+
+def leave(module, faults):
+    """Puts the page, the module and the refusals of the library into dist/web, in one piece."""
     if DIST.exists() and not (DIST / MARK).exists():
         sys.exit(f'web.py: {DIST} exists already and was not made here: take it away')
     DIST.parent.mkdir(exist_ok=True)
@@ -304,13 +319,9 @@ def leave(module):
         for source in sorted((WEB / 'page').iterdir()):
             shutil.copyfile(source, new / source.name)
         (new / 'gbkeep.wasm').write_bytes(module)
+        (new / 'faults.js').write_bytes(faults)
         shutil.copyfile(DEMO, new / 'demo.gb')
-        made = subprocess.run([sys.executable, '-B', WEB / 'faults.py'], stdout=subprocess.PIPE, check=True)
-        (new / 'faults.js').write_bytes(made.stdout)
-        files = sorted(path.name for path in new.iterdir() if path.name not in ('README', 'service_worker.js'))
-        version = hashlib.sha256(b''.join(hashlib.sha256((new / name).read_bytes()).digest() for name in files)).hexdigest()[:16]
-        (new / MARK).write_text('// Made by scripts/web.py: what the page needs without a network.\n/* exported FILES, VERSION */\n'
-                                f'const VERSION = {json.dumps(version)};\nconst FILES = {json.dumps(["./", *files])};\n', encoding='utf-8')
+        list_files(new)
         length = sum(path.stat().st_size for path in new.iterdir())
         if length > MOST_BYTES:
             sys.exit(f'web.py: the page has {length:,} bytes, more than {MOST_BYTES:,}')
@@ -338,7 +349,7 @@ def main():
             module = link(kit, room, changed)
         except Unknown as unknown:
             sys.exit(f'web.py: {unknown}: the module is not made')
-    leave(module)
+    leave(module, run([sys.executable, '-B', WEB / 'faults.py'], stdout=subprocess.PIPE).stdout)
 
 
 if __name__ == '__main__':

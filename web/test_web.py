@@ -33,6 +33,7 @@ from examples.speed import build as speed_roms
 from gbkeep import Picture
 from gbkeep.palettes import PALETTES
 from gbkeep.timed_game import SaveTime, TimedGame, given_until, lines_of
+from scripts.web import list_files
 
 HERE = Path(__file__).resolve().parent
 TOP = HERE.parent
@@ -514,7 +515,7 @@ for (let k = 0; k < 10000; k += 1) {
   }
   if (k === 5000) { first = library.calls.memory.buffer.byteLength; }
 }
-return [first, library.calls.memory.buffer.byteLength, session.count()];'''
+return [first, library.calls.memory.buffer.byteLength, Number(session.count())];'''
 
 
 class Files(WithBrowser):
@@ -870,18 +871,18 @@ CLOCK_TRACES = '''
 const { Clock } = await import('./clock.js');
 const out = [];
 for (const { text: begun, count: inputs, now, answer, steps } of given[0]) {
-  let [text, date, ran, count, saved] = [begun, now, 500.25, inputs, inputs];
-  const clock = new Clock({ read: () => text, write: (other) => { text = other; } }, inputs, () => date, () => ran);
+  let [text, date, ran, count, saved] = [begun, now, 500.25, BigInt(inputs), BigInt(inputs)];
+  const clock = new Clock({ read: () => text, write: (other) => { text = other; } }, count, () => date, () => ran);
   const asked = [];
   const notice = await clock.begin((question) => { asked.push(question); return answer; });
   const row = [notice !== null, asked.length];
   for (const [passes, frames] of steps) {
     date += passes;
     ran += passes;
-    count += frames;
+    count += BigInt(frames);
     const passed = clock.claim(count);
     if (passed > 0) {
-      count += 1;
+      count += 1n;
       clock.given();
     }
     if (count > saved) {
@@ -1136,11 +1137,11 @@ const { Clock } = await import('./clock.js');
 // what stands beside a game, how many inputs its SAVE has, and until when the clock of that SAVE was given
 const found = [];
 for (const trace of given[0]) {
-  let [text, ran, count] = ['', 500.25, 0];
+  let [text, ran, count] = ['', 500.25, 0n];
   let saved = null;
   const write = (other) => {
     text = other;
-    if (saved !== null) { found.push([text, saved.count, saved.until]); }
+    if (saved !== null) { found.push([text, Number(saved.count), saved.until]); }
   };
   const clock = new Clock({ read: () => text, write }, count, () => 1000000.5, () => ran);
   await clock.begin(() => null);
@@ -1151,25 +1152,25 @@ for (const trace of given[0]) {
     if (what === 'wait') {
       ran += number / 16;
     } else if (what === 'frames') {
-      count += number;
+      count += BigInt(number);
     } else if (what === 'state') {
       states.push(until);
     } else if (what === 'back') {
       states = states.slice(0, 1 + number % states.length);
       until = states.at(-1);
-      count += 1;
+      count += 1n;
       clock.goBack(until);
     } else {
       const passed = clock.claim(count);
       if (passed > 0) {
         until += passed;
-        count += 1;
+        count += 1n;
         clock.given();
       }
       if (until !== Math.floor(1000000.5 + ran - 500.25)) { throw new Error(`the clock was given ${until}`); }
       if (count > saved.count) {
         saved = { count, until };
-        found.push([text, count, until]);
+        found.push([text, Number(count), until]);
         clock.saved(count);
       }
     }
@@ -1211,6 +1212,7 @@ class Killed(WithBrowser):
         chance, told, site = random.Random(SEED + 1), 0, self.room / 'noting'
         shutil.copytree(self.site, site)
         (site / 'worker.js').write_text((site / 'worker.js').read_text() + NOTES)
+        list_files(site)
         server, profile, undone, kept_some, kind = Server(site, kind=Noting), self.room / 'undone-0', 0, 0, type(self)
         notes = server.server
         kind.browser.close()
@@ -1462,6 +1464,7 @@ class Around(WithBrowser):
         text = (other / 'library.js').read_text()
         self.assertIn('5, 3, 1, 4, 1]', text)
         (other / 'library.js').write_text(text.replace('5, 3, 1, 4, 1]', '5, 3, 1, 64, 1]'))
+        list_files(other)
         server = Server(other)
         try:
             self.page.open(server.url())
@@ -1603,6 +1606,7 @@ class Firefox(unittest.TestCase):
             site = room / 'site'
             shutil.copytree(DIST, site)
             (site / 'page.js').write_text((site / 'page.js').read_text() + REPORTS)
+            list_files(site)
             server = Server(site, kind=Reporting)
             server.server.reports, server.server.reported = [], threading.Event()
             inputs = [(1 << (number % 8), 60) for number in range(10)]
@@ -1692,24 +1696,26 @@ class Shots(WithBrowser):
         page.shot(TOP / 'docs/browser_phone.png')
 
 
-def main():
+def main(usage, kinds, others=None):
+    """Runs the tests of these classes, or those that are named; `others` are cases that run only where they are named, alone."""
     global GBKEEP
+    script = Path(sys.argv[0]).name
     if len(sys.argv) < 2:
-        sys.exit(__doc__)
+        sys.exit(usage)
     GBKEEP = str(Path(sys.argv[1]).resolve())
     if not (DIST / 'gbkeep.wasm').exists():
-        sys.exit('test_web.py: there is no dist/web: make web leaves it')
+        sys.exit(f'{script}: there is no dist/web: make web leaves it')
     wanted, suite, loader = sys.argv[2:], unittest.TestSuite(), unittest.TestLoader()
-    if wanted in (['measure'], ['shots']):
-        suite.addTest({'measure': Measured, 'shots': Shots}[wanted[0]]())
+    if len(wanted) == 1 and wanted[0] in (others or {}):
+        suite.addTest(others[wanted[0]]())
     else:
-        for kind in (Playing, Files, Clocks, Rewound, Traced, Room, Around, Firefox, Killed):
+        for kind in kinds:
             names = [name for name in loader.getTestCaseNames(kind) if not wanted or name.removeprefix('test_') in wanted]
             suite.addTests(map(kind, names))
     if suite.countTestCases() == 0:
-        sys.exit(f'test_web.py: there is no test of the name {" ".join(wanted)}')
+        sys.exit(f'{script}: there is no test of the name {" ".join(wanted)}')
     return 0 if unittest.TextTestRunner(verbosity=2).run(suite).wasSuccessful() else 1
 
 
 if __name__ == '__main__':
-    sys.exit(main())
+    sys.exit(main(__doc__, (Playing, Files, Clocks, Rewound, Traced, Room, Around, Firefox, Killed), {'measure': Measured, 'shots': Shots}))

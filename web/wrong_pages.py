@@ -1,5 +1,5 @@
 #!/usr/bin/python3
-"""Makes pages that are wrong in one place each, and wants a test of test_web.py to see it.
+"""Makes pages that are wrong in one place each, and wants a test of the page to see it.
 
 usage: wrong_pages.py GBKEEP [NAME ..]     NAME: of a page, as flushes_are_left_out; all are tried where none is given
 
@@ -11,10 +11,12 @@ import sys
 import tempfile
 from pathlib import Path
 
+from scripts.web import list_files
+
 HERE = Path(__file__).resolve().parent
 DIST = HERE.parent / 'dist/web'
 
-# its name, the file, the text that stands there once, what stands there then, and the test that has to see it
+# its name, the file, the text that stands there once, what stands there then, and the test that has to see it: of test_web.py where no other is named
 PAGES = [
     ('flushes_are_left_out', 'games.js', '      if (bytes === null) {\n        this.disk.flush();\n', '      if (bytes === null) {\n', 'undone_writes'),
     ('saved_is_told_before_the_calls', 'games.js', '      this.makeCalls();\n      this.saved = saved;\n',
@@ -26,16 +28,15 @@ PAGES = [
     ('a_frame_has_other_buttons', 'worker.js', '      play(order.buttons, some);\n', '      play(order.buttons & 0x7f, some);\n', 'as_the_program'),
     ('a_frame_is_lost', 'worker.js', '      order.left -= some;\n', '      order.left -= some + (order.left > some ? 1 : 0);\n', 'as_the_program'),
     ('keys_do_not_reach_the_game', 'keys.js', "    const names = [...this.keys, ...this.touches.values()];\n", "    const names = [...this.touches.values()];\n", 'keys'),
-    ('going_back_writes_over_the_game', 'games.js', "    const number = Math.max(0, ...numbersIn(await namesIn(this.folder))) + 1;\n    if (this.clock) {",
-     "    const number = Math.max(0, ...numbersIn(await namesIn(this.folder))) + (from === this.number ? 1 : 0);\n    if (this.clock) {", 'slots'),
-    ('a_save_is_taken_in_untried', 'games.js', "    Session.resume(library, await readFile(folder, 'cart.gb'), image).free();\n", '', 'damaged_saves'),
-    ('a_damaged_game_begins_anew', 'games.js', "      this.resume();\n      if (this.number !== said?.play) {", "      try { this.resume(); } catch { this.disk.close(); await this.begin(this.number); }\n      if (this.number !== said?.play) {",
+    ('going_back_writes_over_the_game', 'games.js', "      number = await nextIn(this.folder);\n", "      number = await nextIn(this.folder) - (from === this.number ? 0 : 1);\n", 'slots'),
+    ('a_save_is_taken_in_untried', 'games.js', "  Session.resume(library, await cartridgeIn(folder, id), image).free();\n", '', 'damaged_saves'),
+    ('a_damaged_game_begins_anew', 'games.js', "      await this.goOn(there);\n", "      try { await this.goOn(there); } catch { this.disk.close(); await this.begin(this.number); }\n",
      'damaged_saves'),
     ('time_passes_by_moments', 'worker.js', '      const due = Math.floor((now() - since) * FRAMES_A_SECOND / 1000) - played;\n', '      const due = 1;\n', 'speed_of_a_game_boy'),
     ('seconds_are_given_twice', 'clock.js', '    this.until = this.claimed.until;\n    this.written = this.claimed;\n', '    this.written = this.claimed;\n', 'clock_rules'),
     ('a_claim_is_not_written_first', 'clock.js', 'return passed > 0 && this.write([this.claimed, this.written]) ? passed : 0;', 'return passed > 0 ? passed : 0;', 'clock_rules'),
     ('a_rewound_clock_stays_behind', 'games.js', '    this.clock?.goBack(state.until);\n', '', 'rewound_clock'),
-    ('a_rewound_game_goes_on_where_it_was', 'games.js', '    this.session.restore(state.bytes);\n    this.count += 1;\n', '', 'rewind'),
+    ('a_rewound_game_goes_on_where_it_was', 'games.js', '    this.session.restore(state.bytes);\n    this.count += 1n;\n', '', 'rewind'),
     ('a_state_is_kept_at_each_seventh_frame', 'past.js', 'const FRAMES_BETWEEN = 6;', 'const FRAMES_BETWEEN = 7;', 'rewind'),
     ('the_power_is_switched_without_an_answer', 'page.js', "      if (agrees && playing) {\n        shown(await ask('power'));\n", "      if (playing) {\n        shown(await ask('power'));\n", 'power'),
     ('a_battery_file_is_forgotten', 'games.js', 'battery ? Session.import(this.library, this.rom, battery, sectors) : Session.begin(this.library, this.rom, sectors)',
@@ -44,9 +45,22 @@ PAGES = [
      'battery_file_of_the_list'),
     ('a_battery_file_alone_is_passed_over', 'page.js', "  if (battery && !cart) {\n    throw Refused.own('battery');\n  }\n", '', 'wrong_battery_files'),
     ('a_half_made_game_stays', 'games.js', "      await root.removeEntry(id, { recursive: true }).catch(() => {});\n    }\n    throw refused;", '    }\n    throw refused;', 'small_quota'),
-    ('nothing_is_kept_for_later', 'service_worker.js', "await cache.match(event.request, { ignoreSearch: true }) ?? fetch(event.request)", 'fetch(event.request)', 'offline'),
+    ('nothing_is_kept_for_later', 'service_worker.js', "await cache.match(request, { ignoreSearch: true }) ?? fetch(request)", 'fetch(request)', 'offline'),
     ('deleting_asks_nothing', 'page.js', "    if (await questioned(`Delete ${name}, with its SAVE, its slot and all that is kept of it, from this browser? This can't be undone.`)) {",
      '    {', 'delete'),
+    ('the_game_goes_on_without_an_index', 'games.js', "    this.isOver = true;\n", '', 'test_kept_games.py index_is_not_flushed'),
+    ('what_stood_in_the_index_is_not_put_back', 'game_index.js', "      this.undo(place);\n", '', 'test_kept_games.py index_is_not_flushed'),
+    ('the_newest_sector_is_written_over', 'game_index.js', "    await this.put(1 - this.place, said);\n  }\n", "    await this.put(this.place, said);\n  }\n", 'test_kept_games.py torn_index'),
+    ('a_torn_sector_counts', 'game_index.js', " || await sha256(new TextEncoder().encode(found[1])) !== found[4]", '', 'test_kept_games.py torn_index'),
+    ('a_long_index_stays_long', 'game_index.js', "        index.handle.truncate(LENGTH);\n", '', 'test_kept_games.py old_index'),
+    ('a_cartridge_is_not_looked_at', 'games.js', "if (rom === null || await sha256(rom) !== id) {", 'if (rom === null) {', 'test_kept_games.py cut_cartridge'),
+    ('a_count_is_a_number', 'library.js', "    return BigInt.asUintN(64, this.library.calls.gbkeep_session_count(this.at));", "    return BigInt(Number(BigInt.asUintN(64, this.library.calls.gbkeep_session_count(this.at))));",
+     'test_kept_games.py large_counts'),
+    ('a_wrong_file_closes_the_game', 'worker.js', "      tryCartridge(opened, rom, battery);\n", "      close();\n      tryCartridge(opened, rom, battery);\n", 'test_kept_games.py wrong_file_in_play'),
+    ('a_private_window_is_taken_for_another', 'page.js', "    sayNothingKept();\n  }\n  if", "  }\n  if", 'test_kept_games.py private_window'),
+    ('a_file_is_kept_unlooked_at', 'service_worker.js', " || await sha256(await answer.clone().arrayBuffer()) !== digest", '', 'test_versions.py mixture_is_not_kept'),
+    ('files_of_other_places_are_deleted', 'service_worker.js', " && await (await caches.open(name)).match(scope) !== undefined", '', 'test_versions.py names_without_a_place'),
+    ('a_kept_mixture_is_played', 'versions.js', "  if (mixed.length === 0) {\n", "  if (mixed.length >= 0) {\n", 'test_versions.py kept_mixture'),
     ('a_button_has_no_name', 'index.html', '<button type="button" id="shot">Picture</button>', '<button type="button" id="shot"></button>', 'accessible'),
 ]
 
@@ -59,6 +73,7 @@ def made(folder, file, old, new):
     if text.count(old) != 1:
         return None
     (page / file).write_text(text.replace(old, new), encoding='utf-8')
+    list_files(page)
     return page
 
 
@@ -75,7 +90,8 @@ def main():
                 print(f'{name}: does not apply', flush=True)
                 status = 1
                 continue
-            ran = subprocess.run([sys.executable, '-B', str(HERE / 'test_web.py'), sys.argv[1], test], env={**os.environ, 'PAGE': str(page)}, capture_output=True,
+            script, name_of_test = test.split(' ') if ' ' in test else ('test_web.py', test)
+            ran = subprocess.run([sys.executable, '-B', str(HERE / script), sys.argv[1], name_of_test], env={**os.environ, 'PAGE': str(page)}, capture_output=True,
                                  text=True)
             why = [line for line in ran.stderr.splitlines() if 'Error: ' in line] or ['']
             print(f'{name}: {"seen by " + test + ": " + why[-1][:120] if ran.returncode else "NOT SEEN by " + test}', flush=True)

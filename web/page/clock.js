@@ -6,7 +6,8 @@
 //
 // While a game is open, time is counted by a clock that nobody sets; the computer's date is looked at when a game is opened.
 
-const INPUTS_BETWEEN = 125;
+const INPUTS_BETWEEN = 125n;
+const MOST_COUNT = 2n ** 64n - 1n;
 const YEAR = 366 * 86400;
 const NO_FAULT = 60;
 const MOST_LINES = 8;
@@ -33,8 +34,8 @@ export function span(seconds) {
 
 /** The lines of a text; null where it is no such text. */
 function linesOf(text) {
-  const lines = text.split('\n').map((line) => /^([0-9]{1,15}) ([0-9]{1,11})$/.exec(line));
-  return lines.length <= MOST_LINES && lines.every(Boolean) ? lines.map((found) => ({ count: Number(found[1]), until: Number(found[2]) })) : null;
+  const lines = text.split('\n').map((line) => /^([0-9]{1,20}) ([0-9]{1,11})$/.exec(line)).map((found) => found && { count: BigInt(found[1]), until: Number(found[2]) });
+  return lines.length <= MOST_LINES && lines.every((line) => line && line.count <= MOST_COUNT) ? lines : null;
 }
 
 /** Until when the clock of an image with so many inputs was given; of one that is older than each line, the last of all. */
@@ -43,8 +44,11 @@ function givenUntil(lines, count) {
   return Math.max(...(fit.length > 0 ? fit : lines).map((line) => line.until));
 }
 
+const least = (counts) => counts.reduce((one, other) => (other < one ? other : one));
+const greatest = (counts) => counts.reduce((one, other) => (other > one ? other : one));
+
 export class Clock {
-  /** The clock of an image with so many inputs. `place` reads and writes the text that stands beside it. */
+  /** The clock of an image with so many inputs, a BigInt as each count. `place` reads and writes the text that stands beside it. */
   constructor(place, count, now = () => Date.now() / 1000, elapsed = () => performance.now() / 1000) {
     Object.assign(this, { place, count, elapsed });
     this.opened = now();
@@ -52,6 +56,8 @@ export class Clock {
     this.until = Math.floor(this.opened);
     this.written = { count, until: this.until };
     this.isStill = false;
+    // a write has failed
+    this.hasFailed = false;
   }
 
   /** Looks up until when the clock was given. `ask` answers a question by true, false, or null for no answer. Answers what the player is to be told. */
@@ -65,7 +71,7 @@ export class Clock {
     let notice = null;
     if (lines.length > 0) {
       notice = await this.takeUp(lines, ask);
-    } else if (this.count > 0) {
+    } else if (this.count > 0n) {
       notice = "Nothing says until when the cartridge's clock was given: it goes on from where it stood.";
     }
     this.opened = Math.max(this.opened, this.until);
@@ -79,9 +85,10 @@ export class Clock {
     this.until = givenUntil(lines, this.count);
     const away = now - this.until;
     let notice = null;
-    if (this.count < Math.min(...lines.map((line) => line.count))) {
+    const counts = lines.map((line) => line.count);
+    if (this.count < least(counts)) {
       notice = `The game has fewer inputs than it had: it is an older copy. Its clock is given the ${Math.max(away, 0).toLocaleString('en')} seconds since it was last saved here.`;
-    } else if (this.count > Math.max(...lines.map((line) => line.count)) + INPUTS_BETWEEN) {
+    } else if (this.count > greatest(counts) + INPUTS_BETWEEN) {
       notice = `The game was played elsewhere. Its clock is given the ${Math.max(away, 0).toLocaleString('en')} seconds since it was last saved here.`;
     }
     if (away > YEAR) {
@@ -108,6 +115,7 @@ export class Clock {
       this.place.write(lines.map((line) => `${line.count} ${line.until}`).join('\n'));
       return true;
     } catch {
+      this.hasFailed = true;
       return false;
     }
   }
@@ -118,7 +126,7 @@ export class Clock {
       return 0;
     }
     const passed = Math.min(Math.floor(this.opened + this.elapsed() - this.began) - this.until, MOST_SECONDS);
-    this.claimed = { count: count + 1, until: this.until + passed };
+    this.claimed = { count: count + 1n, until: this.until + passed };
     return passed > 0 && this.write([this.claimed, this.written]) ? passed : 0;
   }
 

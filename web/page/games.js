@@ -4,41 +4,26 @@
 //
 //   cart.gb     the cartridge
 //   about       its name, as JSON
-//   index       a sector: which image is played, and which is the slot. Whoever plays the game has this file open, and nobody else can open it then
+//   index       which image is played, and which is the slot (game_index.js). Whoever plays the game has this file open, and nobody else can open it then
 //   N.gbkeep    an image of the game: a SAVE of the program
 //   N.time      of a cartridge with a clock: until when the clock of that image was given, a sector
 //   picture     the last picture, as shades
 //
 // An image is never written over by another one. What is played is changed by one write of the index, so that a cut leaves the old or the new.
 import { Clock, hasClock } from './clock.js';
+import { sha256 } from './digest.js';
+import { access, closeAll, namesIn, newFile, put, readFile, readWhereThere, refusalOf, remove, sectorOf, textOf, wholeOf } from './disk.js';
+import { GameIndex, indexOf } from './game_index.js';
 import { PICTURE_LENGTH, SECTOR, Session, sectorsNeeded } from './library.js';
 import { Past } from './past.js';
 import { Refused } from './refusals.js';
 
 const MOST_SECTORS = 65536;
 const ROOT = [...'GBKPROOT'].map((letter) => letter.charCodeAt(0));
-// a file that a closed tab had open is free a moment later
-const WAITS = 15;
-const WAIT = 100;
 // a session keeps the calls that it handed out, some 1,100 bytes each, until it is taken up anew
 const MOST_CALLS = 4000;
 const PICTURE_SECONDS = 5;
-
-const sleep = (time) => new Promise((done) => { setTimeout(done, time); });
-
-/** What the browser throws, as a refusal. */
-export function refusalOf(error) {
-  if (error instanceof Refused) {
-    return error;
-  }
-  const own = { QuotaExceededError: 'room', NoModificationAllowedError: 'other', NotFoundError: 'gone', SecurityError: 'files', NotReadableError: 'read' }[error?.name];
-  return own ? Refused.own(own) : new Refused('the page failed', String(error?.message ?? error), 'open the page anew: what was saved stays saved', 'failed');
-}
-
-export async function sha256(bytes) {
-  const digest = new Uint8Array(await crypto.subtle.digest('SHA-256', bytes));
-  return [...digest].map((byte) => byte.toString(16).padStart(2, '0')).join('');
-}
+const NAMELESS = { title: '', name: 'a cartridge' };
 
 /** The folder of the games. Refused where this browser keeps no files for this page. */
 export async function gamesFolder() {
@@ -56,77 +41,6 @@ export async function gamesFolder() {
   }
 }
 
-async function namesIn(folder) {
-  const names = [];
-  for await (const name of folder.keys()) {
-    names.push(name);
-  }
-  return names;
-}
-
-async function access(folder, name, create = false) {
-  const file = await folder.getFileHandle(name, { create });
-  return file.createSyncAccessHandle();
-}
-
-function put(handle, bytes, at) {
-  if (handle.write(bytes, { at }) !== bytes.length) {
-    throw Refused.own('room');
-  }
-}
-
-function wholeOf(handle) {
-  const bytes = new Uint8Array(handle.getSize());
-  if (handle.read(bytes, { at: 0 }) !== bytes.length) {
-    throw Refused.own('read');
-  }
-  return bytes;
-}
-
-/** A new file with these bytes. The first two sectors are written when the others are durable: a file that has a root has all. */
-async function newFile(folder, name, bytes) {
-  let handle = null;
-  try {
-    handle = await access(folder, name, true);
-    handle.truncate(0);
-    const head = Math.min(2 * SECTOR, bytes.length);
-    put(handle, new Uint8Array(head), 0);
-    put(handle, bytes.subarray(head), head);
-    handle.flush();
-    put(handle, bytes.subarray(0, head), 0);
-    handle.flush();
-    handle.close();
-  } catch (error) {
-    handle?.close();
-    await folder.removeEntry(name).catch(() => {});
-    throw error;
-  }
-}
-
-async function readFile(folder, name) {
-  const file = await (await folder.getFileHandle(name)).getFile();
-  return new Uint8Array(await file.arrayBuffer());
-}
-
-/** Whether a file is there and has these bytes. */
-async function holds(folder, name, bytes) {
-  try {
-    const there = await readFile(folder, name);
-    return there.length === bytes.length && there.every((byte, k) => byte === bytes[k]);
-  } catch {
-    return false;
-  }
-}
-
-/** Text in a sector, with blanks behind it. */
-function sectorOf(text) {
-  return new TextEncoder().encode(text.padEnd(SECTOR));
-}
-
-function textOf(sector) {
-  return new TextDecoder().decode(sector).trimEnd();
-}
-
 function hasRoot(head) {
   return [0, SECTOR].some((at) => head.length >= at + ROOT.length && ROOT.every((byte, k) => head[at + k] === byte));
 }
@@ -142,26 +56,36 @@ function cartridgeOf(image) {
   return [...image.subarray(at + 20, at + 52)].map((byte) => byte.toString(16).padStart(2, '0')).join('');
 }
 
+/** The cartridge of a game, where it is the one that the folder is named after. */
+async function cartridgeIn(folder, id) {
+  const rom = await readWhereThere(folder, 'cart.gb');
+  if (rom === null || await sha256(rom) !== id) {
+    throw Refused.own('rom');
+  }
+  return rom;
+}
+
 function numbersIn(names) {
   return names.map((name) => /^([1-9][0-9]{0,8})\.gbkeep$/.exec(name)).filter(Boolean).map((found) => Number(found[1])).sort((a, b) => a - b);
 }
 
-/** What an index says; null where it says nothing that can be. */
-function indexOf(text) {
-  try {
-    const { play, slot } = JSON.parse(text);
-    return [play, slot].every((one) => Number.isSafeInteger(one) && one >= 0) && play > 0 ? { play, slot } : null;
-  } catch {
-    return null;
-  }
+/** The number of an image that is not there yet. */
+async function nextIn(folder) {
+  return Math.max(0, ...numbersIn(await namesIn(folder))) + 1;
+}
+
+/** Whether a file is the image of a game, by its first sectors. */
+async function isImage(file) {
+  return hasRoot(new Uint8Array(await file.slice(0, 2 * SECTOR).arrayBuffer()));
 }
 
 async function aboutOf(folder) {
+  const bytes = await readWhereThere(folder, 'about');
   try {
-    const { title, name } = JSON.parse(textOf(await readFile(folder, 'about')));
+    const { title, name } = JSON.parse(textOf(bytes));
     return { title: String(title), name: String(name) };
   } catch {
-    return { title: '', name: 'a cartridge' };
+    return NAMELESS;
   }
 }
 
@@ -174,34 +98,34 @@ function titleOf(rom) {
 /** What the list shows of a game. */
 async function rowOf(root, id) {
   const folder = await root.getDirectoryHandle(id);
-  const row = { id, ...await aboutOf(folder), size: 0, saved: 0, isOpen: false, isBegun: false, picture: null, images: [] };
+  const row = { id, ...NAMELESS, size: 0, saved: 0, isOpen: false, isUnread: false, isBegun: false, picture: null, images: [] };
   const names = await namesIn(folder);
+  let said = null;
   for (const name of names) {
     try {
       const file = await (await folder.getFileHandle(name)).getFile();
       row.size += file.size;
       const [number] = numbersIn([name]);
       if (number) {
-        const head = new Uint8Array(await file.slice(0, 2 * SECTOR).arrayBuffer());
-        if (hasRoot(head)) {
+        if (await isImage(file)) {
           row.images.push({ number, saved: file.lastModified, size: file.size });
         }
+      } else if (name === 'about') {
+        Object.assign(row, await aboutOf(folder));
+      } else if (name === 'index') {
+        ({ said } = await indexOf(new Uint8Array(await file.arrayBuffer())));
       } else if (name === 'picture' && file.size === PICTURE_LENGTH) {
         row.picture = new Uint8Array(await file.arrayBuffer());
       }
     } catch (error) {
-      row.isOpen ||= error.name === 'NoModificationAllowedError' || error.name === 'NotReadableError';
+      const isOpen = error.name === 'NoModificationAllowedError' || error.name === 'NotReadableError';
+      row.isOpen ||= isOpen;
+      row.isUnread ||= !isOpen && error.name !== 'NotFoundError';
     }
   }
-  let index = null;
-  try {
-    index = indexOf(textOf(await readFile(folder, 'index')));
-  } catch {
-    index = null;
-  }
   row.images.sort((a, b) => b.saved - a.saved || b.number - a.number);
-  row.play = index?.play ?? row.images[0]?.number ?? 0;
-  row.slot = index?.slot ?? 0;
+  row.play = said?.play ?? row.images[0]?.number ?? 0;
+  row.slot = said?.slot ?? 0;
   row.isBegun = row.images.length > 0 || row.isOpen;
   row.saved = row.images.find((image) => image.number === row.play)?.saved ?? 0;
   return row;
@@ -219,28 +143,15 @@ export async function listGames() {
   return rows.sort((a, b) => b.saved - a.saved);
 }
 
-/** The index of a game, which nobody else can open until it is closed. */
-async function indexIn(folder) {
-  for (let wait = 0; ; wait += 1) {
-    try {
-      return await access(folder, 'index', true);
-    } catch (error) {
-      if (error.name !== 'NoModificationAllowedError' || wait === WAITS) {
-        throw error;
-      }
-      await sleep(WAIT);
-    }
-  }
-}
-
-/** Does something with the folder of a game and its index; with `create`, of a game that may not be there, and where that fails, none is there. */
+/** Does something with the folder of a game and its index, which is open then; with `create`, of a game that may not be there, and where that fails, none is
+ * there. */
 async function locked(id, create, run) {
   const root = await gamesFolder();
   let folder = null;
   let index = null;
   try {
     folder = await root.getDirectoryHandle(id, { create });
-    index = await indexIn(folder);
+    index = await GameIndex.open(folder);
     return await run(folder, index);
   } catch (error) {
     index?.close();
@@ -252,10 +163,19 @@ async function locked(id, create, run) {
   }
 }
 
+/** Does something with a game that nobody plays. */
+async function withGame(id, run) {
+  return locked(id, false, async (folder, index) => {
+    const kept = await run(folder, index);
+    index.close();
+    return kept;
+  });
+}
+
 /** Deletes a game with all that is kept of it. */
 export async function deleteGame(id) {
   const root = await gamesFolder();
-  await locked(id, false, async (folder, index) => index.close());
+  await withGame(id, () => {});
   try {
     await root.removeEntry(id, { recursive: true });
   } catch (error) {
@@ -265,86 +185,106 @@ export async function deleteGame(id) {
 
 /** Deletes an image that is neither played nor the slot. */
 export async function deleteImage(id, number) {
-  await locked(id, false, async (folder, index) => {
-    const said = indexOf(textOf(wholeOf(index)));
-    index.close();
-    if (said && number !== said.play && number !== said.slot) {
-      await folder.removeEntry(`${number}.gbkeep`);
-      await folder.removeEntry(`${number}.time`).catch(() => {});
+  await withGame(id, async (folder, { said }) => {
+    if (!said || number === said.play || number === said.slot) {
+      throw Refused.own('played');
     }
+    await folder.removeEntry(`${number}.gbkeep`);
+    await remove(folder, `${number}.time`);
   });
 }
 
-/** Plays another image of a game from now on. The one that was played is kept. */
+/** Plays another image of a game from now on, or a copy of its slot. The one that was played is kept. */
 export async function playImage(id, number) {
-  await locked(id, false, async (folder, index) => {
-    await folder.getFileHandle(`${number}.gbkeep`);
-    const said = indexOf(textOf(wholeOf(index)));
-    put(index, sectorOf(JSON.stringify({ play: number, slot: said?.slot ?? 0 })), 0);
-    index.flush();
-    index.close();
+  await withGame(id, async (folder, index) => {
+    const slot = index.said?.slot ?? 0;
+    let play = number;
+    if (number === slot) {
+      index.reserve();
+      play = await nextIn(folder);
+      await newImage(folder, play, await readFile(folder, `${number}.gbkeep`), await readWhereThere(folder, `${number}.time`));
+    } else {
+      await folder.getFileHandle(`${number}.gbkeep`);
+    }
+    await index.write({ play, slot });
   });
+}
+
+/** A new image with these bytes, and with what says until when its clock was given, or null. */
+async function newImage(folder, number, image, time) {
+  try {
+    if (time) {
+      await newFile(folder, `${number}.time`, time);
+    }
+    await newFile(folder, `${number}.gbkeep`, image);
+  } catch (error) {
+    await folder.removeEntry(`${number}.time`).catch(() => {});
+    throw error;
+  }
 }
 
 /** The bytes of an image of a game that nobody plays. */
 export async function imageOf(id, number) {
-  return locked(id, false, async (folder, index) => {
-    const bytes = await readFile(folder, `${number}.gbkeep`);
-    index.close();
-    return bytes;
-  });
+  return withGame(id, (folder) => readFile(folder, `${number}.gbkeep`));
 }
 
 /** The battery file of an image of a game that nobody plays. */
 export async function batteryOf(library, id, number) {
-  return locked(id, false, async (folder, index) => {
+  return withGame(id, async (folder) => {
     // the calls of this session are not made
-    const session = Session.resume(library, await readFile(folder, 'cart.gb'), await readFile(folder, `${number}.gbkeep`));
+    const session = Session.resume(library, await cartridgeIn(folder, id), await readFile(folder, `${number}.gbkeep`));
     try {
       return session.battery();
     } finally {
       session.free();
-      index.close();
     }
   });
 }
 
-/** Takes a SAVE in beside its cartridge, as the image that is played from now on. Answers the game's ID. */
-export async function takeIn(library, image) {
+/** Looks whether a cartridge, and a battery file for it, can be played. The calls of this session are not made. */
+export function tryCartridge(library, rom, battery) {
+  const sectors = sectorsNeeded(library, rom);
+  if (battery) {
+    Session.import(library, rom, battery, sectors).free();
+  }
+}
+
+/** Looks whether a SAVE from outside can be played. Answers the ID of its game. The calls of this session are not made. */
+export async function trySave(library, image) {
   if (image.length > MOST_SECTORS * SECTOR) {
     throw Refused.own('long');
   }
   const id = cartridgeOf(image);
   const root = await gamesFolder();
+  let folder = null;
   try {
-    await (await root.getDirectoryHandle(id)).getFileHandle('cart.gb');
-  } catch {
-    throw Refused.own('cartridge');
+    folder = await root.getDirectoryHandle(id);
+    await folder.getFileHandle('cart.gb');
+  } catch (error) {
+    throw error.name === 'NotFoundError' ? Refused.own('cartridge') : error;
   }
-  return locked(id, false, async (folder, index) => {
-    // tried before it is kept: the calls of this session are not made
-    Session.resume(library, await readFile(folder, 'cart.gb'), image).free();
-    const said = indexOf(textOf(wholeOf(index)));
-    const number = Math.max(0, ...numbersIn(await namesIn(folder))) + 1;
-    await newFile(folder, `${number}.gbkeep`, image);
-    put(index, sectorOf(JSON.stringify({ play: number, slot: said?.slot ?? 0 })), 0);
-    index.flush();
-    index.close();
-    return id;
+  Session.resume(library, await cartridgeIn(folder, id), image).free();
+  return id;
+}
+
+/** Takes a SAVE in beside its cartridge, as the image that is played from now on. It was tried. */
+export async function takeIn(id, image) {
+  await withGame(id, async (folder, index) => {
+    index.reserve();
+    const play = await nextIn(folder);
+    await newImage(folder, play, image, null);
+    await index.write({ play, slot: index.said?.slot ?? 0 });
   });
 }
 
-/** A game that is open: nobody else can open it. `count` is how many inputs it has, `saved` how many of them are saved. */
+/** A game that is open: nobody else can open it. `count` is how many inputs it has, `saved` how many of them are saved: BigInts. */
 export class Game {
-  /** Goes on with a game, or begins it where there is none, or `isNew` is true, or with a battery file; `rom` is null where its cartridge is here. `ask`
-   * answers a question about the clock. `hasPast` says whether it can be rewound. */
+  /** Goes on with a game, or begins it where there is none, or `isNew` is true, or with a battery file; `rom` is its cartridge, whose SHA-256 is `id`, or null
+   * where that is here. `ask` answers a question about the clock. `hasPast` says whether it can be rewound. */
   static async open(library, { id, rom, name, isNew, battery, isTimed, hasPast, ask }) {
-    if (rom) {
-      sectorsNeeded(library, rom);
-    }
-    return locked(id ?? await sha256(rom), rom !== null, async (folder, index) => {
+    return locked(id, rom !== null, async (folder, index) => {
       const game = new Game();
-      Object.assign(game, { library, folder, index, isTimed, ask, past: null, calls: 0, shown: -Infinity, notice: null });
+      Object.assign(game, { library, id, folder, index, isTimed, ask, past: null, calls: 0, shown: -Infinity, notice: null, troubles: [], isOver: false });
       try {
         await game.takeCartridge(rom, name);
         await game.takeImage(isNew, battery);
@@ -361,10 +301,11 @@ export class Game {
   }
 
   async takeCartridge(rom, name) {
-    this.rom = rom ?? await readFile(this.folder, 'cart.gb');
+    this.rom = rom ?? await cartridgeIn(this.folder, this.id);
     this.name = name ?? (await aboutOf(this.folder)).name;
     this.title = titleOf(this.rom) || this.name;
-    if (rom && !await holds(this.folder, 'cart.gb', rom)) {
+    const there = rom && await readWhereThere(this.folder, 'cart.gb');
+    if (rom && (there === null || await sha256(there) !== this.id)) {
       await newFile(this.folder, 'cart.gb', rom);
       await newFile(this.folder, 'about', sectorOf(JSON.stringify({ title: this.title, name: this.name.slice(0, 100) })));
     }
@@ -372,35 +313,58 @@ export class Game {
 
   /** Opens the image that is played, or begins one where there is none, or where it is to be a new one. */
   async takeImage(isNew, battery) {
-    const said = indexOf(textOf(wholeOf(this.index)));
+    const { said, isDamaged } = this.index;
     const there = numbersIn(await namesIn(this.folder));
     this.slot = said?.slot ?? 0;
     this.number = there.includes(said?.play) ? said.play : await this.newest(there);
     const isMissing = said !== null && this.number !== said.play;
-    if (isNew || battery || this.number === 0) {
+    const isBegun = isNew || battery || this.number === 0;
+    if (isBegun) {
       await this.begin(Math.max(0, ...there) + 1, battery);
     } else {
       this.disk = await access(this.folder, `${this.number}.gbkeep`);
-      this.resume();
-      if (this.number !== said?.play) {
-        this.writeIndex();
+      await this.goOn(there);
+      if (isDamaged || this.number !== said?.play) {
+        await this.writeIndex();
       }
     }
     this.resumed = this.count;
     await this.takeClock();
-    if (isMissing && !isNew && !battery) {
-      this.notice = `${this.notice ?? ''} The game that was played last is not there: the newest of those that are kept is played.`.trim();
+    if (isMissing && !isBegun) {
+      this.say('The game that was played last is not there: the newest of those that are kept is played.');
     }
-    this.picturePlace = await access(this.folder, 'picture', true).catch(() => null);
+    if (isDamaged && !isBegun) {
+      this.say('What says which game is played was damaged: it may be another one than the last. Each one that is kept stands in the list.');
+    }
+    this.picturePlace = await access(this.folder, 'picture', true).catch(() => {
+      this.say('The picture of this game can\'t be kept for the list.');
+      return null;
+    });
   }
 
-  /** The image that was written last, where no index says which is played; 0 where there is none. */
+  /** A line that the player is to be told once the game is open. */
+  say(line) {
+    this.notice = `${this.notice ?? ''} ${line}`.trim();
+  }
+
+  /** Takes the game up. Where it is damaged, and others are kept, they are offered. */
+  async goOn(there) {
+    try {
+      this.resume();
+    } catch (error) {
+      if (['library', 'long'].includes(error.kind) && await this.newest(there.filter((number) => number !== this.number)) > 0) {
+        throw error.instead('older games of this cartridge are kept: choose `Play this one` beside one of them in the list', 'older');
+      }
+      throw error;
+    }
+  }
+
+  /** Of these images the one that was written last; 0 where there is none. */
   async newest(numbers) {
     let found = { number: 0, saved: -1 };
     for (const number of numbers) {
       const file = await (await this.folder.getFileHandle(`${number}.gbkeep`)).getFile();
-      const head = new Uint8Array(await file.slice(0, 2 * SECTOR).arrayBuffer());
-      if (hasRoot(head) && file.lastModified >= found.saved) {
+      if (await isImage(file) && file.lastModified >= found.saved) {
         found = { number, saved: file.lastModified };
       }
     }
@@ -411,6 +375,7 @@ export class Game {
   async begin(number, battery) {
     const name = `${number}.gbkeep`;
     try {
+      this.index.reserve();
       this.disk = await access(this.folder, name, true);
       const sectors = sectorsNeeded(this.library, this.rom);
       this.disk.truncate(0);
@@ -418,14 +383,15 @@ export class Game {
       this.disk.flush();
       this.session = battery ? Session.import(this.library, this.rom, battery, sectors) : Session.begin(this.library, this.rom, sectors);
       this.makeCalls();
-      this.number = number;
-      this.writeIndex();
     } catch (error) {
-      this.disk?.close();
+      closeAll([this.disk]);
       this.disk = null;
       await this.folder.removeEntry(name).catch(() => {});
       throw error;
     }
+    this.number = number;
+    // where this fails, the index may name the new image: it stays
+    await this.writeIndex();
     this.count = this.session.count();
     this.saved = this.count;
   }
@@ -465,9 +431,8 @@ export class Game {
     }
   }
 
-  writeIndex() {
-    put(this.index, sectorOf(JSON.stringify({ play: this.number, slot: this.slot })), 0);
-    this.index.flush();
+  async writeIndex() {
+    await this.index.write({ play: this.number, slot: this.slot });
   }
 
   async takeClock() {
@@ -493,7 +458,7 @@ export class Game {
     for (let left = count; left > 0;) {
       const some = Math.min(left, this.past?.left() ?? left);
       this.session.frames(buttons, some);
-      this.count += some;
+      this.count += BigInt(some);
       left -= some;
       if (this.past?.played(some)) {
         this.keepState();
@@ -504,7 +469,7 @@ export class Game {
   /** Switches the power off and on. */
   power() {
     this.session.power();
-    this.count += 1;
+    this.count += 1n;
     this.keepState();
   }
 
@@ -521,7 +486,7 @@ export class Game {
       return null;
     }
     this.session.restore(state.bytes);
-    this.count += 1;
+    this.count += 1n;
     const { frame } = this.past;
     this.past.goTo(state);
     this.clock?.goBack(state.until);
@@ -533,7 +498,7 @@ export class Game {
     const passed = this.clock?.claim(this.count) ?? 0;
     if (passed > 0) {
       this.session.seconds(passed);
-      this.count += 1;
+      this.count += 1n;
       this.clock.given();
     }
     if (this.count > this.saved) {
@@ -546,6 +511,10 @@ export class Game {
         this.resume();
       }
     }
+    if (this.clock?.hasFailed) {
+      this.clock.hasFailed = false;
+      this.troubles.push('The browser could not write until when the clock of the cartridge was given: it is given no time before that is written.');
+    }
     return this.saved;
   }
 
@@ -557,7 +526,9 @@ export class Game {
       try {
         put(this.picturePlace, this.session.picture(), 0);
       } catch {
-        // the game goes on without it
+        closeAll([this.picturePlace]);
+        this.picturePlace = null;
+        this.troubles.push('The picture of this game could not be kept for the list.');
       }
     }
   }
@@ -576,29 +547,28 @@ export class Game {
     return this.session.battery();
   }
 
-  /** The bytes of the SAVE, with everything saved. */
+  /** The bytes of the SAVE. Everything is saved. */
   image() {
-    this.keep();
     return wholeOf(this.disk);
   }
 
-  /** Copies the game to its slot. The slot before stays as an image. */
+  /** Copies the game to its slot. The slot before stays as an image. Everything is saved. */
   async keepSlot() {
-    await this.copy(this.image(), this.number, (number) => { this.slot = number; });
+    this.slot = await this.copy(this.image(), this.number, (number) => ({ play: this.number, slot: number }));
+    this.isOver = false;
   }
 
-  /** Goes back to the slot, by a copy of it. The game that was played stays as an image. */
+  /** Goes back to the slot, by a copy of it. The game that was played stays as an image. Everything is saved. */
   async goBack() {
-    if (this.slot === 0) {
+    const image = this.slot === 0 ? null : await readWhereThere(this.folder, `${this.slot}.gbkeep`);
+    if (image === null) {
       throw Refused.own('empty');
     }
-    this.keep();
-    const image = await readFile(this.folder, `${this.slot}.gbkeep`).catch(() => { throw Refused.own('empty'); });
+    this.notice = null;
     // tried before it is played: the calls of this session are not made
     Session.resume(this.library, this.rom, image).free();
-    await this.copy(image, this.slot, (number) => { this.number = number; });
-    this.disk.close();
-    this.timePlace?.close();
+    this.number = await this.copy(image, this.slot, (number) => ({ play: number, slot: this.slot }));
+    closeAll([this.disk, this.timePlace]);
     this.disk = null;
     this.timePlace = null;
     this.disk = await access(this.folder, `${this.number}.gbkeep`);
@@ -607,27 +577,29 @@ export class Game {
     await this.takeClock();
     this.past?.clear();
     this.keepState();
+    this.isOver = false;
   }
 
-  /** Makes an image of these bytes, with the time of the image `from`, and tells the index what it is. */
-  async copy(image, from, become) {
-    const number = Math.max(0, ...numbersIn(await namesIn(this.folder))) + 1;
-    if (this.clock) {
-      const time = from === this.number ? wholeOf(this.timePlace) : await readFile(this.folder, `${from}.time`).catch(() => null);
-      if (time) {
-        await newFile(this.folder, `${number}.time`, time);
-      }
-    }
-    const before = { number: this.number, slot: this.slot };
+  /** Takes a SAVE in, which was tried, as the image that is played once this game was closed. Everything is saved. */
+  async takeIn(image) {
+    await this.copy(image, 0, (number) => ({ play: number, slot: this.slot }));
+  }
+
+  /** Makes an image of these bytes, with the time of the image `from`, and has the index say something of it. Answers its number. Where the index failed,
+   * the game is over, and it is over until its caller goes on with what the index says. */
+  async copy(image, from, said) {
+    let number = 0;
     try {
-      await newFile(this.folder, `${number}.gbkeep`, image);
-      become(number);
-      this.writeIndex();
+      this.index.reserve();
+      number = await nextIn(this.folder);
+      const time = from === this.number ? this.timePlace && wholeOf(this.timePlace) : await readWhereThere(this.folder, `${from}.time`);
+      await newImage(this.folder, number, image, this.clock ? time : null);
     } catch (error) {
-      Object.assign(this, before);
-      await this.folder.removeEntry(`${number}.time`).catch(() => {});
       throw refusalOf(error);
     }
+    this.isOver = true;
+    await this.index.write(said(number));
+    return number;
   }
 
   /** Saves, and lets others open the game. */
@@ -642,9 +614,8 @@ export class Game {
 
   /** Lets others open the game; what is unsaved is lost. */
   drop() {
-    for (const handle of [this.disk, this.timePlace, this.picturePlace, this.index]) {
-      handle?.close();
-    }
+    closeAll([this.disk, this.timePlace, this.picturePlace]);
+    this.index?.close();
     const { session } = this;
     Object.assign(this, { session: null, disk: null, timePlace: null, picturePlace: null, index: null });
     session?.free();

@@ -24,7 +24,7 @@ export class Library {
   }
 
   /** The module at this address, compiled. */
-  static async load(url) {
+  static async compiled(url) {
     if (!hasMemories()) {
       throw Refused.own('memory');
     }
@@ -33,11 +33,23 @@ export class Library {
       if (!answer.ok) {
         throw Refused.own('load');
       }
-      const { instance } = await WebAssembly.instantiate(await answer.arrayBuffer(), {});
-      return new Library(instance.exports);
+      return await WebAssembly.compile(await answer.arrayBuffer());
     } catch {
       throw Refused.own('load');
     }
+  }
+
+  /** A library of its own, of a compiled module. */
+  static async of(module) {
+    try {
+      return new Library((await WebAssembly.instantiate(module, {})).exports);
+    } catch {
+      throw Refused.own('load');
+    }
+  }
+
+  static async load(url) {
+    return Library.of(await Library.compiled(url));
   }
 
   /** So many bytes of the memory. They are moved where it grows: take them anew after each call that takes memory. */
@@ -155,16 +167,16 @@ export class Session {
     this.library.with([bytes], (at) => check(this.library.calls.gbkeep_session_restore(this.at, at, BigInt(bytes.length))));
   }
 
-  /** How many inputs it has, saved and unsaved. */
+  /** How many inputs it has, saved and unsaved: a BigInt, as there may be more than a number counts. */
   count() {
-    return Number(BigInt.asUintN(64, this.library.calls.gbkeep_session_count(this.at)));
+    return BigInt.asUintN(64, this.library.calls.gbkeep_session_count(this.at));
   }
 
   /** Saves: the count of all inputs, which may be told once all calls that are then handed out were made. */
   save() {
     return this.library.with([8], (saved) => {
       check(this.library.calls.gbkeep_session_save(this.at, saved));
-      return Number(this.library.long(saved));
+      return this.library.long(saved);
     });
   }
 

@@ -2,6 +2,7 @@
 import { Held, KEYS, byteOf } from './keys.js';
 import { PALETTES, draw, fit, pngOf } from './picture.js';
 import { Refused, lineOf } from './refusals.js';
+import { look } from './versions.js';
 
 const MOST_ROM = 8 << 20;
 const MOST_FILE = 65536 * 512;
@@ -10,6 +11,8 @@ const FRAMES_A_SECOND = 4194304 / 70224;
 // a second of play is about as many of the states that a game can be rewound to
 const STATES_A_SECOND = 10;
 const DEMO = 'demo.gb';
+// so long a file may take to be read or written before the player is told, in milliseconds
+const LONG = 10000;
 
 const $ = (id) => document.getElementById(id);
 const given = new URLSearchParams(location.search);
@@ -27,9 +30,31 @@ function ask(what, data = {}, moved = []) {
   calls += 1;
   const call = calls;
   return new Promise((kept, broken) => {
-    waiting.set(call, { kept, broken });
+    waiting.set(call, { kept, broken, what, since: performance.now() });
     worker.postMessage({ ask: what, data, call }, moved);
   });
+}
+
+/** Says so where the worker doesn't answer: a file of the browser's is read or written for ever. Frames that were asked for may take long. */
+let isLate = false;
+function lookForAnswers() {
+  const now = performance.now();
+  for (const one of waiting.values()) {
+    if ($('question').open) {
+      one.since = now;
+    }
+  }
+  const was = isLate;
+  const line = lineOf(Refused.own('late'));
+  isLate = [...waiting.values()].some((one) => one.what !== 'press' && now - one.since > LONG);
+  if (isLate && !was) {
+    say($('status').dataset.state, line);
+  } else if (was && !isLate && $('status').textContent === line) {
+    say($('status').dataset.state, 'The browser goes on.');
+  }
+  if (![...waiting.values()].some((one) => one.what === 'ping')) {
+    ask('ping').catch(() => {});
+  }
 }
 
 const told = {
@@ -39,6 +64,13 @@ const told = {
     shown(place);
   },
   saved: shown,
+  trouble({ line }) {
+    warn('trouble', line);
+  },
+  closed() {
+    playing = null;
+    held.clear();
+  },
   stopped({ refused }) {
     refuse(refused);
   },
@@ -75,6 +107,10 @@ let palette = 0;
 let playing = null;
 // while it is rewound: by how many frames so far, and whether there is an older state; else null
 let rewinding = null;
+// whether what is written is gone with this window
+let keepsNothing = false;
+// the files of the page were looked at: it may be loaded anew until then, and no game is opened before
+let looked = null;
 
 function remembered(name) {
   try {
@@ -108,11 +144,6 @@ function refuse(refused) {
   $('pause').disabled = true;
 }
 
-/** Says a refusal after which the game goes on. */
-function mention(refused) {
-  say(stateNow(), lineOf(refused));
-}
-
 function stateNow() {
   return playing === null ? 'closed' : playing.isPaused ? 'paused' : 'playing';
 }
@@ -123,7 +154,7 @@ function shown({ count, saved }) {
   }
   $('status').dataset.count = count;
   $('status').dataset.saved = saved;
-  $('count').textContent = `saved ${saved.toLocaleString('en')} of ${count.toLocaleString('en')} inputs`;
+  $('count').textContent = `${keepsNothing ? 'kept until this window is closed:' : 'saved'} ${saved.toLocaleString('en')} of ${count.toLocaleString('en')} inputs`;
 }
 
 function show(view) {
@@ -156,13 +187,16 @@ async function tried(run) {
   try {
     await run();
   } catch (error) {
-    if ($('status').dataset.state !== 'refused' || playing) {
-      mention(error instanceof Refused ? error : { line: 'the page failed', means: String(error), advice: 'open the page anew' });
-      if (playing === null) {
-        $('status').dataset.state = 'refused';
-      }
-    }
+    const refused = error instanceof Refused ? error : { line: 'the page failed', means: String(error), advice: 'open the page anew' };
+    say(playing === null ? 'refused' : stateNow(), lineOf(refused));
   }
+}
+
+/** Says something of this browser or of the page, whatever is shown below. */
+function warn(name, text) {
+  const there = document.getElementById(name) ?? part('p', '', { id: name });
+  there.textContent = text;
+  $('warnings').append(there);
 }
 
 /** Asks the player a question: whether it was agreed to. */
@@ -223,7 +257,7 @@ function rowOf(row) {
     }
   }));
   item.append(canvas, part('h3', row.title ? `${row.title} (${row.name})` : row.name),
-    part('p', row.isOpen ? 'open in another tab' : `${row.isBegun ? `last saved ${when(row.saved)}` : 'not begun'}; ${size(row.size)}`), buttons);
+    part('p', row.isOpen ? 'open in another tab' : `${row.isBegun ? `last saved ${when(row.saved)}` : 'not begun'}; ${size(row.size)}${row.isUnread ? '; some of it can\'t be read' : ''}`), buttons);
   const others = row.images.filter((image) => image.number !== row.play);
   if (others.length > 0) {
     item.append(othersOf(row, name, others));
@@ -241,11 +275,13 @@ function othersOf(row, name, others) {
     const item = part('li', '');
     const buttons = part('span', '', { className: 'row' });
     buttons.append(button('Take out', `Take out ${what}, of ${name}`, () => takeOut(row.id, image.number, name)));
+    buttons.append(button('Play this one', `Play ${what}, of ${name}; the present one is kept`, async () => {
+      await ask('playImage', { id: row.id, number: image.number });
+      await listed();
+      say('closed', `${what[0].toUpperCase()}${what.slice(1)}, is played next.`);
+    }));
     if (image.number !== row.slot) {
-      buttons.append(button('Play this one', `Play ${what}, of ${name}; the present one is kept`, async () => {
-        await ask('playImage', { id: row.id, number: image.number });
-        await listed();
-      }), button('Delete', `Delete ${what}, of ${name}`, async () => {
+      buttons.append(button('Delete', `Delete ${what}, of ${name}`, async () => {
         if (await questioned(`Delete ${what}, of ${name}? This can't be undone.`)) {
           await ask('deleteImage', { id: row.id, number: image.number });
           await listed();
@@ -285,19 +321,27 @@ async function takeBatteryOut(id, number, name) {
 
 // ---- a game
 
+/** Opens a game. Where it is refused, the one that was open goes on. */
 async function play(what) {
-  say('opening', 'Opening the game.');
-  await closed();
+  say(playing === null ? 'opening' : stateNow(), 'Opening the game.');
+  document.getElementById('trouble')?.remove();
   let got;
   try {
+    await looked;
     const moved = [what.rom, what.battery].filter(Boolean).map((bytes) => bytes.buffer);
     got = await ask('open', { ...what, paused: isTest, max: isMax, test: isTest }, moved);
   } catch (error) {
-    say('refused', lineOf(error));
-    show('games');
-    await listed().catch(() => {});
+    if (playing === null) {
+      say('refused', lineOf(error));
+      show('games');
+      await listed().catch(() => {});
+      if (error.kind === 'older') {
+        document.querySelectorAll('#list details').forEach((one) => { one.open = true; });
+      }
+    }
     throw error;
   }
+  held.clear();
   playing = { title: got.title, name: got.name, isPaused: isTest };
   rewinding = null;
   $('pause').disabled = false;
@@ -464,7 +508,7 @@ async function moment() {
 
 /** Asks the browser once to keep what is here, and says what it answers. */
 async function askToKeep() {
-  if (!navigator.storage?.persist) {
+  if (!navigator.storage?.persist || keepsNothing) {
     return;
   }
   let isKept = await navigator.storage.persisted();
@@ -479,6 +523,13 @@ function sayKept(isKept) {
   $('kept').textContent = isKept
     ? 'This browser keeps the games until you delete them or its data.'
     : 'This browser does not promise to keep the games: it may remove all of them together when the disk is short of room. Take out each SAVE that you would miss.';
+}
+
+/** Says that what is written is gone with this window. */
+function sayNothingKept() {
+  keepsNothing = true;
+  $('kept').textContent = '';
+  warn('keeps-nothing', 'This browser keeps nothing of this window, as of a private one: games are kept until it is closed. Take out each SAVE that you would keep.');
 }
 
 // ---- files
@@ -520,10 +571,7 @@ async function take(files) {
     await begin(cart, battery);
   }
   if (save) {
-    await closed();
-    show('games');
-    const id = await ask('takeIn', { image: save.bytes }, [save.bytes.buffer]);
-    await play({ id });
+    await play({ id: await ask('takeIn', { image: save.bytes }, [save.bytes.buffer]) });
   }
 }
 
@@ -550,6 +598,11 @@ async function fetched(url) {
 
 // ---- for tests, and for anybody who plays by program
 
+/** A count for a program: a number where one can hold it, else a BigInt. */
+function counted(count) {
+  return count <= BigInt(Number.MAX_SAFE_INTEGER) ? Number(count) : count;
+}
+
 window.gbkeep = {
   /** Plays frames with these buttons, a byte or names; kept when they were played. */
   press: (buttons, frames = 1) => {
@@ -559,13 +612,13 @@ window.gbkeep = {
     const byte = typeof buttons === 'number' ? buttons & 0xff : byteOf(buttons);
     return ask('press', { held: byte, frames }).then((place) => {
       shown(place);
-      return place.count;
+      return counted(place.count);
     });
   },
   /** Switches the power off and on; kept, with the count of inputs, when it was. */
   power: () => ask('power').then((place) => {
     shown(place);
-    return place.count;
+    return counted(place.count);
   }),
   /** Goes back by so many of the states that are kept, or to the oldest; kept, with the count of inputs, when it did. */
   rewind: (states = 1) => {
@@ -574,13 +627,13 @@ window.gbkeep = {
     }
     return ask('rewind', { states }).then((place) => {
       shown(place);
-      return place.count;
+      return counted(place.count);
     });
   },
   /** Saves; kept, with the count of inputs, when all calls were made. */
   save: () => ask('save').then((place) => {
     shown(place);
-    return place.saved;
+    return counted(place.saved);
   }),
   /** The SHA-256 of the state, as `gbkeep show` prints it of the SAVE. */
   state: () => ask('state'),
@@ -675,12 +728,20 @@ async function start() {
   choose(Math.min(Math.max(Number(remembered('palette')) || 0, 0), PALETTES.length - 1));
   $('touch').checked = (remembered('touch') ?? (matchMedia('(pointer: coarse)').matches ? '1' : '0')) === '1';
   $('pad').hidden = !$('touch').checked;
-  navigator.serviceWorker?.register('service_worker.js').catch(() => {});
+  looked = look().then((mixture) => {
+    if (mixture !== null) {
+      warn('mixture', mixture);
+    }
+    navigator.serviceWorker?.register('service_worker.js', { updateViaCache: 'none' }).catch(() => {});
+  });
   if (navigator.storage?.persisted) {
     sayKept(await navigator.storage.persisted());
   }
   requestAnimationFrame(moment);
-  await ask('load');
+  setInterval(lookForAnswers, 1000);
+  if ((await ask('load')).keepsNothing) {
+    sayNothingKept();
+  }
   if (given.has('cart')) {
     await begin(await fetched(given.get('cart')));
   } else {

@@ -1,13 +1,16 @@
 // Everything that plays: the library, the game that is open, and its files. The page asks by {ask, data, call}, and is answered by {call, answer} or
 // {call, refused}. What nobody asked for is told by {tell}.
-import { Game, batteryOf, deleteGame, deleteImage, gamesFolder, imageOf, isSave, listGames, playImage, refusalOf, takeIn } from './games.js';
+import { sha256 } from './digest.js';
+import { refusalOf } from './disk.js';
+import { Game, batteryOf, deleteGame, deleteImage, gamesFolder, imageOf, isSave, listGames, playImage, takeIn, tryCartridge, trySave } from './games.js';
+import { keepsNothing } from './keeping.js';
 import { Library } from './library.js';
 import { Refused } from './refusals.js';
 
 const FRAMES_A_SECOND = 4194304 / 70224;
 // a save a second; with more unsaved inputs than this, a save before
-const FRAMES_A_SAVE = 60;
-const MOST_UNSAVED = 3000;
+const FRAMES_A_SAVE = 60n;
+const MOST_UNSAVED = 3000n;
 // how long frames are played in one piece, in milliseconds, and how much of them is made up for where the page was late
 const PIECE = 8;
 const FAST_PIECE = 11;
@@ -18,6 +21,8 @@ const REWIND_TIME = 1000 / 30;
 
 let library = null;
 let loading = null;
+// it is fetched once: a later answer may be of another version
+let compiled = null;
 let game = null;
 // why the game that was open stopped
 let stopped = null;
@@ -101,7 +106,27 @@ function guarded(run) {
 
 function keep() {
   kept = now();
-  return game.keep();
+  game.keep();
+  tellTroubles();
+}
+
+/** What went wrong, and the game goes on. */
+function tellTroubles(one = game) {
+  one.troubles.splice(0).forEach((line) => tell('trouble', { line }));
+}
+
+/** Does something with the files of the game that is open, once everything is saved; where nobody knows then which game is played, it is over. */
+async function changed(run) {
+  guarded(keep);
+  const changing = game;
+  try {
+    await run(changing);
+  } catch (error) {
+    if (changing.isOver) {
+      stop(error);
+    }
+    throw error;
+  }
 }
 
 /** A frame, or some where they are alike; then a save where one is due. */
@@ -223,10 +248,12 @@ function tick({ held, isFast, isBack }) {
 }
 
 async function loaded() {
-  loading ??= Library.load(new URL('gbkeep.wasm', import.meta.url));
+  compiled ??= Library.compiled(new URL('gbkeep.wasm', import.meta.url));
+  loading ??= compiled.then((module) => Library.of(module));
   try {
     library = await loading;
   } catch (error) {
+    compiled = null;
     loading = null;
     throw error;
   }
@@ -252,21 +279,48 @@ function close() {
     game = null;
     stopped = null;
     orders.splice(0).forEach((order) => postMessage({ call: order.call, refused: Refused.own('closed').told() }));
-    closing.close();
+    tell('closed');
+    try {
+      closing.close();
+    } finally {
+      tellTroubles(closing);
+    }
   }
 }
 
 const answers = {
+  /** Whether the worker runs at all. */
+  ping() {},
   async load() {
+    const tried = keepsNothing().catch(() => false);
     await loaded();
     await gamesFolder();
+    return { keepsNothing: await tried };
   },
   list: listGames,
-  async open({ id = null, rom = null, name = null, anew = false, battery = null, paused = false, max = false, test = false }) {
-    close();
-    isTest = test;
+  /** Opens a game in place of the one that is open, which goes on where this one can't be opened. */
+  async open({ id: named = null, rom = null, name = null, anew = false, battery = null, paused = false, max = false, test = false }) {
+    const opened = await loaded();
+    if (rom) {
+      tryCartridge(opened, rom, battery);
+    }
+    const id = rom ? await sha256(rom) : named;
+    if (game !== null) {
+      guarded(keep);
+      if (game.id === id) {
+        close();
+      }
+    }
     // a game that runs as fast as it goes would copy its states most of the time
-    game = await Game.open(await loaded(), { id, rom, name, isNew: anew, battery, isTimed: !isTest, hasPast: !max, ask });
+    const next = await Game.open(opened, { id, rom, name, isNew: anew, battery, isTimed: !test, hasPast: !max, ask });
+    try {
+      close();
+    } catch (error) {
+      next.drop();
+      throw error;
+    }
+    game = next;
+    isTest = test;
     stopped = null;
     isPaused = paused;
     isMax = max;
@@ -274,6 +328,7 @@ const answers = {
     kept = now();
     countAnew();
     showPicture();
+    tellTroubles();
     return { ...place(), title: game.title, name: game.name, notice: game.notice };
   },
   close,
@@ -296,7 +351,10 @@ const answers = {
   },
   state: () => guarded((one) => one.state()),
   picture: () => guarded((one) => one.picture()),
-  image: () => guarded((one) => one.image()),
+  image() {
+    guarded(keep);
+    return game.image();
+  },
   battery: () => open().battery(),
   power() {
     open().power();
@@ -316,24 +374,27 @@ const answers = {
     return { ...place(), rewound };
   },
   async keepSlot() {
-    await open().keepSlot();
+    await changed((one) => one.keepSlot());
     return place();
   },
   async goBack() {
-    const going = open();
-    try {
-      await going.goBack();
-    } catch (error) {
-      if (going.disk === null || going.session === null) {
-        stop(error);
-      }
-      throw error;
-    }
+    await changed((one) => one.goBack());
     countAnew();
     showPicture();
-    return { ...place(), notice: going.notice };
+    tellTroubles();
+    return { ...place(), notice: game.notice };
   },
-  takeIn: async ({ image }) => takeIn(await loaded(), image),
+  /** Takes a SAVE in as the image that is played from now on; where its game is open, that one is closed then. */
+  async takeIn({ image }) {
+    const id = await trySave(await loaded(), image);
+    if (game?.id === id) {
+      await changed((one) => one.takeIn(image));
+      close();
+    } else {
+      await takeIn(id, image);
+    }
+    return id;
+  },
   isSave: ({ bytes }) => isSave(bytes),
   imageOf: ({ id, number }) => imageOf(id, number),
   batteryOf: async ({ id, number }) => batteryOf(await loaded(), id, number),
@@ -347,7 +408,7 @@ const answers = {
 };
 
 // What is asked is done one after another, and no frame is played meanwhile. A tick can be left out, and an answer is waited for.
-const AT_ONCE = new Set(['tick', 'answered', 'load']);
+const AT_ONCE = new Set(['ping', 'tick', 'answered', 'load']);
 let last = Promise.resolve();
 
 async function answer({ ask: what, data, call }) {
