@@ -12,6 +12,7 @@ import sys
 import time
 import zipfile
 
+from web import test_web
 from web.test_web import HERE, SECTOR, Browser, Page, Server, WithBrowser, any_inputs, list_files, main
 
 FOLDER = '''
@@ -172,7 +173,7 @@ class KeptGames(WithBrowser):
                 self.assertEqual(self.again().count(), 100)
 
     def test_kept_folder(self):
-        """The folder of a game with a clock, as the page of version 9acb2fd0 left it, is taken as it is."""
+        """The folder of a game with a clock, as another version of the page left it, is taken as it is."""
         with zipfile.ZipFile(HERE / 'kept_folder.zip') as kept:
             files = {name.split('/')[1]: kept.read(name) for name in kept.namelist()}
             self.ident = kept.namelist()[0].split('/')[0]
@@ -188,7 +189,7 @@ class KeptGames(WithBrowser):
         page = self.page.open(self.server.url('?paused=1'))
         [row] = [row for row in page.rows() if 'CLOCK (clock.gb)' in row]
         self.assertIn('1 more kept', row)
-        self.button_of('Go on with CLOCK').click()
+        self.click('Go on with CLOCK')
         page.until_state('paused')
         self.assertEqual((str(page.count()), page.state()), (wanted['1.gbkeep']['inputs'], wanted['1.gbkeep']['state']))
         page.click('#go-back')
@@ -258,7 +259,7 @@ class KeptGames(WithBrowser):
                 page = self.again()
                 self.assertEqual(page.state_of(), 'refused')
                 self.assertIn('Older games of this cartridge are kept', page.text())
-                self.button_of('Play a game that was replaced').click()
+                self.click('Play a game that was replaced')
                 page.until_text('is played next')
                 self.assertEqual(self.again().count(), 3_700)
                 self.assertEqual(self.there('3.gbkeep'), damaged)
@@ -271,7 +272,7 @@ class KeptGames(WithBrowser):
         slot = self.there('2.gbkeep')
         page = self.again()
         self.assertIn('Older games of this cartridge are kept', page.text())
-        self.button_of('Play the slot').click()
+        self.click('Play the slot')
         page.until_text('is played next')
         page = self.again()
         self.assertEqual(page.count(), 100)
@@ -346,10 +347,10 @@ class KeptGames(WithBrowser):
                 before = {name: self.there(name) for name in self.names()}
                 for label in ('Begin', 'Go on with'):
                     page = self.listed()
-                    self.button_of(f'{label} {title}').click()
+                    self.click(f'{label} {title}')
                     page.until_text('the cartridge of this game is missing or damaged here')
                     self.assertIn('Open the cartridge again', page.text())
-                self.button_of(f'Take the battery file of {title} out').click()
+                self.click(f'Take the battery file of {title} out')
                 page.until_state('refused')
                 self.assertIn('the cartridge of this game', page.text())
                 # another cartridge heals nothing
@@ -363,6 +364,16 @@ class KeptGames(WithBrowser):
     def button_of(self, label):
         """A button of this game in the list."""
         return self.browser.find_element('css selector', f'[data-id="{self.ident}"] [aria-label^="{label}"]')
+
+    def click(self, label):
+        """Clicks a button of this game, also where the list is made anew meanwhile."""
+        def clicked():
+            try:
+                self.button_of(label).click()
+            except test_web.WebDriverException:
+                return False
+            return True
+        self.page.until(clicked, f'{label}: there is no such button')
 
     def title_of(self, name):
         rows = self.page.until(lambda: [one for one in self.page.rows() if f'({name})' in one], f'{name} is not listed')
