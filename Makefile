@@ -64,7 +64,7 @@ help:
 	@echo '  make fuzz       gives it random ROMs, scripts and save files, by another seed'
 	@echo '                  each time (SECONDS=20 in all), and its tools hostile files'
 	@echo '  make faults     makes each call of a tool for a file fail, hang, or be its'
-	@echo '                  last one, and looks at what is left (a quarter of an hour)'
+	@echo '                  last one, and looks at what is left'
 	@echo '  make strace     compares each write and sync of the save file with a second'
 	@echo '                  writer'
 	@echo '  make memory     refuses each allocation in turn (20 s once both are built)'
