@@ -19,22 +19,25 @@ pub use error::CartError;
 use sha2::{Digest, Sha256};
 use std::marker::Model;
 
-/// A cartridge is seen as its image, byte by byte.
+/// A cartridge is seen as its image, byte by byte. The image's SHA-256 is taken once, when it is read: `resume`, a recording and each state
+/// ask for it.
 #[derive(Drop)]
 pub struct Cartridge {
     image: Vec<u8>,
+    digest: [u8; 32],
 }
 
 impl Model for Cartridge {
-    ghost use Rattle.std.specs.Prelude.{List, ℕ};
+    ghost use Rattle.std.specs.Prelude.{◌≡◌, List, ℕ};
 
     ghost Value = { List ℕ };
 
+    ghost use Rattle.sha2.specs.Sha256.{sha256};
     ghost use Rattle.cartridge.specs.Accepted.{IsAccepted};
 
     ghost view = { λ c. c.image.items };
 
-    ghost invariant = { λ c. IsAccepted c.image.items };
+    ghost invariant = { λ c. IsAccepted c.image.items × (c.digest ≡ sha256 c.image.items) };
 }
 
 impl Cartridge {
@@ -47,7 +50,10 @@ impl Cartridge {
     {
         match refusal(&image) {
             Some(why) => Err(why),
-            None => Ok(Cartridge { image }),
+            None => {
+                let digest = Sha256::digest(image.as_slice());
+                Ok(Cartridge { image, digest })
+            }
         }
     }
 
@@ -153,7 +159,7 @@ impl Cartridge {
     pub fn digest(&self) -> [u8; 32]
         ensures { result ≡ sha256 self.now }
     {
-        Sha256::digest(self.image.as_slice())
+        self.digest
     }
 }
 
