@@ -47,10 +47,10 @@ const STREAM_LINES: &str = "Lines of the standard input:
   seconds N    N seconds pass on the cartridge's clock, 0 to 4,294,967,295
   save         saves what is unsaved, and answers saved N
   picture      answers the picture as plain PGM, 46,093 bytes
-  state        answers state N, and the N bytes of the machine's snapshot
+  state        answers state N, and the N bytes of the machine's state
   memory ADDR N  answers N bytes as the program sees them, sixteen a line
   power        the power switch, off and on
-  restore N    and N bytes: goes on with the machine of this snapshot, and answers restored
+  restore N    and N bytes: goes on with the machine of this state, and answers restored
   keep K       keeps the machine under K, 0 to 999, and answers kept K
   back K       goes on with the machine that was kept last under K, and answers back K";
 
@@ -74,8 +74,8 @@ const DEBUG_LINES: &str = "Lines of the standard input, each answered before the
   bank ADDR         the number of the bank that is mapped at ADDR
   serial            the bytes that were sent since the last serial
   picture           the picture as plain PGM, 46,093 bytes
-  state             state K, and the K bytes of the machine's snapshot
-  restore K         and K bytes behind it: goes on from this snapshot
+  state             state K, and the K bytes of the machine's state
+  restore K         and K bytes behind it: goes on from this state
   power             the power switch, off and on: what a battery keeps stays
   keep K            keeps the machine under K, 0 to 999
   back K            goes on from the machine that was kept under K

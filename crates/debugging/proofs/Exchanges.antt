@@ -1,5 +1,5 @@
 -- Lines that were obeyed one after another.
-use Rattle.std.proofs.Common.{◌≡◌, ◌∙◌, ⊎_elim, inl, inr, ℕ, ◌+◌, ◌<◌, ◌^◌, ◌-◌, List, [], ◌∷◌, ◌++◌, append-nil, append_assoc, length, length-append, Option, None, Some, ap, refl, subst, sym, arith, true, false}
+use Rattle.std.proofs.Common.{◌≡◌, ◌∙◌, inl, inr, ℕ, Bool, ◌+◌, ◌<◌, ◌^◌, ◌-◌, List, [], ◌∷◌, ◌++◌, append-nil, append_assoc, length, length-append, Option, None, Some, ap, refl, subst, sym, arith, true, false}
 use Rattle.std.specs.Prelude.{◌==◌, nat_le}
 use Rattle.std.specs.Io.KnownBytes.{Appends}
 use Rattle.std.proofs.lemmas.Bool.{lt-leb}
@@ -10,20 +10,19 @@ use Rattle.arrayvec.specs.ArrayVec.{ArrayVec}
 use Rattle.input_lines.specs.Reading.{left_of}
 use Rattle.input_lines.specs.Given.{Given, HasTakenGiven, TakesGiven, HasReadGiven}
 use Rattle.input_lines.proofs.Givings.{given_none, given_more, given_left, given_rest, given_last}
-use Rattle.cartridge.specs.Header.{ram_length_of}
-use Rattle.snapshot.specs.Encoding.{snapshot_length}
+use Rattle.state_header.specs.States.{header_of}
 use Rattle.debugging.specs.declared.order.StateOrder.{StateOrder}
 use Rattle.debugging.specs.Orders.{asked, order_of, restore_of, state_order_of}
 use Rattle.debugging.specs.Run.{RunState}
-use Rattle.debugging.specs.States.{rom_of}
+use Rattle.debugging.specs.States.{after_snapshot, is_snapshot, rom_of}
 use Rattle.debugging.specs.KeptStates.{DebugState, with_none_kept}
-use Rattle.debugging.specs.Answers.{after_given, after_line, after_lines, after_restore, after_state_order, answer_given, answer_line, answer_restore, answer_state_order, answers, takes_memory, wrong_line}
+use Rattle.debugging.specs.Answers.{after_given, after_line, after_lines, after_state_order, answer_given, answer_line, answer_state_order, answers, restored_text, takes_memory, wrong_line}
 use Rattle.debugging.specs.Debugged.{HasAnsweredAll, HasAnsweredSome, HasBrokenOff, HasLackedMemory, IsDebugCause}
 use Rattle.debugging.specs.declared.error.DebugError.{DebugError}
 use Rattle.debugging.specs.declared.error.DebugError.TheVariants.{Input, Output, Memory}
 use Rattle.debugging.specs.NextGiven.{IsNextGiven, IsWrong}
 use Rattle.debugging.specs.declared.given.NextGiven.TheVariants.{Line, State, Wrong, Last, End, Failed}
-use Rattle.debugging.proofs.Restoring.{is_given_short}
+use Rattle.debugging.proofs.Restoring.{after_is, given_is, not_given}
 use Rattle.debugging.specs.Switching.{HasSwitched, IsNotSwitched}
 use Rattle.debugging.proofs.Givens.{long_asks_none}
 use Rattle.machine_lines.specs.KeptStates.{KeptMachine}
@@ -48,7 +47,7 @@ answers_one_more number (first ∷ all) given d =
     ∙ sym (append_assoc (answer_given first number d) (answers (number + 1) all (after_given first d)) _)
     ∙ ap (λ (n : ℕ). (answer_given first number d ++ answers (number + 1) all (after_given first d)) ++ answer_given given n (after_lines all (after_given first d))) same
 
--- ---- a line of more than 128 bytes, and bytes that are no snapshot by their number
+-- ---- a line of more than 128 bytes, and bytes that are no state
 
 asks_no_state : (line : List ℕ) → 128 < length line → state_order_of line ≡ None
 asks_no_state line long = let test : nat_le (length line) 128 ≡ false = lt-leb (length line) 128 long in rw test refl
@@ -65,16 +64,15 @@ after_long line r long = let some = is_some_line line long in let none = asks_no
 answer_long : (line : List ℕ) (number : ℕ) (r : RunState) → 128 < length line → answer_line line number r ≡ wrong_line number
 answer_long line number r long = let some = is_some_line line long in let none = asks_nothing line long in rw (some, none) refl
 
-pub wrong_given : (room : ℕ) (given : Given) (number : ℕ) (d : DebugState) → IsWrong room given → room ≡ snapshot_length (ram_length_of (rom_of d.run))
-    → (after_given given d ≡ d) × (answer_given given number d ≡ wrong_line number)
-wrong_given room given number d (inl long) is =
+pub wrong_given : (rom : List ℕ) (given : Given) (number : ℕ) (d : DebugState) → IsWrong rom given → rom_of d.run ≡ rom → (after_given given d ≡ d) × (answer_given given number d ≡ wrong_line number)
+wrong_given rom given number d (inl long) is =
     let none = long_asks_none given.line long in
     let plain = asks_no_state given.line long in
     (rw (none, plain) (ap (λ (r : RunState). record d { run = r }) (after_long given.line d.run long)), rw (none, plain) (answer_long given.line number d.run long))
-wrong_given room given number d (inr wrong) is =
+wrong_given rom given number d (inr wrong) is =
     let asks = wrong.1 in
-    let short = is_given_short wrong.0 given.bytes d.run (⊎_elim (λ other. inl other) (λ other. inr (λ e. other (e ∙ sym is))) wrong.2) in
-    (rw (asks, short) refl, rw (asks, short) refl)
+    let none = not_given rom wrong.0 given.bytes d.run is wrong.2 in
+    (rw (asks, none) refl, rw (asks, none) refl)
 
 -- ---- the lines so far
 
@@ -105,7 +103,7 @@ pub record HasObeyed (rom : List ℕ) (states : List (List ℕ)) (start now : Ru
 abbrev pub state_of : RunState → List KeptMachine → DebugState
 state_of r machines = record { run = r; kept = machines }
 
-module _ (start : RunState) (now : DebugState) (number : ℕ) (unread left before since : Option (List ℕ)) (so_far : IsObeying start now number unread left before since) where
+module _ (rom : List ℕ) (start : RunState) (now : DebugState) (number : ℕ) (unread left before since : Option (List ℕ)) (so_far : IsObeying start now number unread left before since) where
   abbrev from : DebugState
   from = with_none_kept start
 
@@ -166,21 +164,21 @@ module _ (start : RunState) (now : DebugState) (number : ℕ) (unread left befor
     order_after : (order : StateOrder) → state_order_of line ≡ Some order → after_given plain now ≡ after_state_order order now
     order_after order is = rw (none, is) refl
 
-  pub line_obeyed : (text : ArrayVec ℕ) (snapshot : List ℕ) (after : RunState) (rest known written : Option (List ℕ)) → IsNextGiven (Line text) snapshot left rest known
+  pub line_obeyed : (text : ArrayVec ℕ) (snapshot : List ℕ) (after : RunState) (rest known written : Option (List ℕ)) → IsNextGiven (Line text) rom snapshot left rest known
       → state_order_of text.items ≡ None → after ≡ after_line text.items now.run → Appends since written (answer_line text.items number now.run)
       → IsObeying start (record now { run = after }) (number + 1) unread rest before written
   line_obeyed text snapshot after rest known written next no_state moved more =
       one_more (plain text.items next.0) (record now { run = after }) rest written (answer_line text.items number now.run) next.1
       (ap (λ (r : RunState). record now { run = r }) moved ∙ sym (line_after text.items next.0 no_state)) (line_answer text.items next.0 no_state) more
 
-  pub line_broken : (text : ArrayVec ℕ) (snapshot : List ℕ) (items : List ℕ) (known written : Option (List ℕ)) → IsNextGiven (Line text) snapshot left (left_of items known) known
+  pub line_broken : (text : ArrayVec ℕ) (snapshot : List ℕ) (items : List ℕ) (known written : Option (List ℕ)) → IsNextGiven (Line text) rom snapshot left (left_of items known) known
       → state_order_of text.items ≡ None → AppendsProperPrefix since written (answer_line text.items number now.run)
       → HasBrokenOff start (record { unread = unread; left = known; before = before; since = written })
   line_broken text snapshot items known written next no_state failed =
       broken_at (plain text.items next.0) items known written (answer_line text.items number now.run) next.1 (line_answer text.items next.0 no_state) failed
 
   -- the power switch, and a state that is kept
-  pub order_obeyed : (text : ArrayVec ℕ) (snapshot : List ℕ) (order : StateOrder) (rest known written : Option (List ℕ)) → IsNextGiven (Line text) snapshot left rest known
+  pub order_obeyed : (text : ArrayVec ℕ) (snapshot : List ℕ) (order : StateOrder) (rest known written : Option (List ℕ)) → IsNextGiven (Line text) rom snapshot left rest known
       → state_order_of text.items ≡ Some order → Appends since written (answer_state_order order number now)
       → IsObeying start (after_state_order order now) (number + 1) unread rest before written
   order_obeyed text snapshot order rest known written next is more =
@@ -188,14 +186,14 @@ module _ (start : RunState) (now : DebugState) (number : ℕ) (unread left befor
       (sym (order_after text.items next.0 order is)) (order_answer text.items next.0 order is) more
 
   pub order_broken : (text : ArrayVec ℕ) (snapshot : List ℕ) (order : StateOrder) (items : List ℕ) (known written : Option (List ℕ))
-      → IsNextGiven (Line text) snapshot left (left_of items known) known → state_order_of text.items ≡ Some order
+      → IsNextGiven (Line text) rom snapshot left (left_of items known) known → state_order_of text.items ≡ Some order
       → AppendsProperPrefix since written (answer_state_order order number now)
       → HasBrokenOff start (record { unread = unread; left = known; before = before; since = written })
   order_broken text snapshot order items known written next is failed =
       broken_at (plain text.items next.0) items known written (answer_state_order order number now) next.1 (order_answer text.items next.0 order is) failed
 
   pub memory_lacked : (text : ArrayVec ℕ) (snapshot : List ℕ) (order : StateOrder) (items : List ℕ) (known written : Option (List ℕ))
-      → IsNextGiven (Line text) snapshot left (left_of items known) known → state_order_of text.items ≡ Some order → written ≡ since → takes_memory (Some order) now ≡ true
+      → IsNextGiven (Line text) rom snapshot left (left_of items known) known → state_order_of text.items ≡ Some order → written ≡ since → takes_memory (Some order) now ≡ true
       → HasLackedMemory start (record { unread = unread; left = known; before = before; since = written })
   memory_lacked text snapshot order items known written next is none takes = record {
     given = so_far.given;
@@ -208,10 +206,10 @@ module _ (start : RunState) (now : DebugState) (number : ℕ) (unread left befor
     answered = subst (λ (w : Option (List ℕ)). Appends before w (answers 1 so_far.given from)) (sym none) so_far.answered;
   }
 
-  pub switch_obeyed : (rom : List ℕ) (states : List (List ℕ)) (text : ArrayVec ℕ) (snapshot : List ℕ) (order : StateOrder) (after : RunState) (rest known written : Option (List ℕ))
-      → IsNextGiven (Line text) snapshot left rest known → state_order_of text.items ≡ Some order → HasSwitched rom order number now after states since written
+  pub switch_obeyed : (states : List (List ℕ)) (text : ArrayVec ℕ) (snapshot : List ℕ) (order : StateOrder) (after : RunState) (rest known written : Option (List ℕ))
+      → IsNextGiven (Line text) rom snapshot left rest known → state_order_of text.items ≡ Some order → HasSwitched rom order number now after states since written
       → HasObeyed rom states start after (number + 1) unread rest before written
-  switch_obeyed rom states text snapshot order after rest known written next is done = record {
+  switch_obeyed states text snapshot order after rest known written next is done = record {
     machines = (after_state_order order now).kept;
     obeying = subst (λ (r : RunState). IsObeying start (state_of r (after_state_order order now).kept) (number + 1) unread rest before written) (sym done.run)
         (order_obeyed text snapshot order rest known written next is done.told);
@@ -219,70 +217,73 @@ module _ (start : RunState) (now : DebugState) (number : ℕ) (unread left befor
   }
 
   pub switch_refused : (text : ArrayVec ℕ) (snapshot : List ℕ) (order : StateOrder) (items : List ℕ) (known written : Option (List ℕ)) (why : DebugError)
-      → IsNextGiven (Line text) snapshot left (left_of items known) known → state_order_of text.items ≡ Some order → IsNotSwitched why order number now since written
+      → IsNextGiven (Line text) rom snapshot left (left_of items known) known → state_order_of text.items ≡ Some order → IsNotSwitched why order number now since written
       → IsDebugCause why start (record { unread = unread; left = known; before = before; since = written })
   switch_refused text snapshot order items known written Input next is refused = absurd refused
   switch_refused text snapshot order items known written Output next is refused = order_broken text snapshot order items known written next is refused
   switch_refused text snapshot order items known written Memory next is refused = memory_lacked text snapshot order items known written next is refused.0 refused.1
 
-  -- a snapshot
-  state_answer : (line bytes : List ℕ) → restore_of line ≡ Some (length bytes)
-      → answer_given (record { line = line; bytes = bytes }) number now ≡ answer_restore (length bytes) bytes number now.run
-  state_answer line bytes asks = rw asks refl
+  -- a state
+  module _ (snapshot : List ℕ) (is_rom : rom_of now.run ≡ rom) where
+    abbrev whole : List ℕ
+    whole = header_of rom ++ snapshot
 
-  state_after : (line bytes : List ℕ) → restore_of line ≡ Some (length bytes)
-      → after_given (record { line = line; bytes = bytes }) now ≡ record now { run = after_restore (length bytes) bytes now.run }
-  state_after line bytes asks = rw asks refl
+    abbrev restored_line : List ℕ
+    restored_line = restored_text (is_snapshot (rom_of now.run) snapshot) number
 
-  pub state_obeyed : (snapshot : List ℕ) (after : RunState) (rest known written : Option (List ℕ)) → IsNextGiven State snapshot left rest known
-      → after ≡ after_restore (length snapshot) snapshot now.run → Appends since written (answer_restore (length snapshot) snapshot number now.run)
-      → IsObeying start (record now { run = after }) (number + 1) unread rest before written
-  state_obeyed snapshot after rest known written next moved more =
-      one_more (record { line = next.0; bytes = snapshot }) (record now { run = after }) rest written (answer_restore (length snapshot) snapshot number now.run) next.2
-      (ap (λ (r : RunState). record now { run = r }) moved ∙ sym (state_after next.0 snapshot next.1)) (state_answer next.0 snapshot next.1) more
+    state_answer : (line : List ℕ) → restore_of line ≡ Some (length whole) → answer_given (record { line = line; bytes = whole }) number now ≡ restored_line
+    state_answer line asks = rw asks (ap (λ (b : Bool). restored_text b number) (given_is rom snapshot now.run is_rom))
 
-  pub state_broken : (snapshot : List ℕ) (items : List ℕ) (known written : Option (List ℕ)) → IsNextGiven State snapshot left (left_of items known) known
-      → AppendsProperPrefix since written (answer_restore (length snapshot) snapshot number now.run)
-      → HasBrokenOff start (record { unread = unread; left = known; before = before; since = written })
-  state_broken snapshot items known written next failed =
-      broken_at (record { line = next.0; bytes = snapshot }) items known written (answer_restore (length snapshot) snapshot number now.run) next.2 (state_answer next.0 snapshot next.1) failed
+    state_after : (line : List ℕ) → restore_of line ≡ Some (length whole) → after_given (record { line = line; bytes = whole }) now ≡ record now { run = after_snapshot snapshot now.run }
+    state_after line asks = rw asks (ap (λ (r : RunState). record now { run = r }) (after_is rom snapshot now.run is_rom))
+
+    pub state_obeyed : (after : RunState) (rest known written : Option (List ℕ)) → IsNextGiven State rom snapshot left rest known → after ≡ after_snapshot snapshot now.run → Appends since written restored_line
+        → IsObeying start (record now { run = after }) (number + 1) unread rest before written
+    state_obeyed after rest known written next moved more =
+        one_more (record { line = next.0; bytes = whole }) (record now { run = after }) rest written restored_line next.2
+        (ap (λ (r : RunState). record now { run = r }) moved ∙ sym (state_after next.0 next.1)) (state_answer next.0 next.1) more
+
+    pub state_broken : (items : List ℕ) (known written : Option (List ℕ)) → IsNextGiven State rom snapshot left (left_of items known) known → AppendsProperPrefix since written restored_line
+        → HasBrokenOff start (record { unread = unread; left = known; before = before; since = written })
+    state_broken items known written next failed =
+        broken_at (record { line = next.0; bytes = whole }) items known written restored_line next.2 (state_answer next.0 next.1) failed
 
   -- a wrong one
-  pub wrong_obeyed : (snapshot : List ℕ) (rest known written : Option (List ℕ)) → length snapshot ≡ snapshot_length (ram_length_of (rom_of now.run)) → IsNextGiven Wrong snapshot left rest known
+  pub wrong_obeyed : (snapshot : List ℕ) (rest known written : Option (List ℕ)) → rom_of now.run ≡ rom → IsNextGiven Wrong rom snapshot left rest known
       → Appends since written (wrong_line number) → IsObeying start now (number + 1) unread rest before written
-  wrong_obeyed snapshot rest known written room next more =
-      let wrong = wrong_given (length snapshot) next.0 number now next.1 room in
+  wrong_obeyed snapshot rest known written is_rom next more =
+      let wrong = wrong_given rom next.0 number now next.1 is_rom in
       one_more next.0 now rest written (wrong_line number) next.2 (sym wrong.0) wrong.1 more
 
-  pub wrong_broken : (snapshot : List ℕ) (items : List ℕ) (known written : Option (List ℕ)) → length snapshot ≡ snapshot_length (ram_length_of (rom_of now.run)) → IsNextGiven Wrong snapshot left (left_of items known) known
+  pub wrong_broken : (snapshot : List ℕ) (items : List ℕ) (known written : Option (List ℕ)) → rom_of now.run ≡ rom → IsNextGiven Wrong rom snapshot left (left_of items known) known
       → AppendsProperPrefix since written (wrong_line number)
       → HasBrokenOff start (record { unread = unread; left = known; before = before; since = written })
-  wrong_broken snapshot items known written room next failed =
-      broken_at next.0 items known written (wrong_line number) next.2 (wrong_given (length snapshot) next.0 number now next.1 room).1 failed
+  wrong_broken snapshot items known written is_rom next failed =
+      broken_at next.0 items known written (wrong_line number) next.2 (wrong_given rom next.0 number now next.1 is_rom).1 failed
 
   -- the input ends within the last one
-  pub last_obeyed : (snapshot : List ℕ) (rest known written : Option (List ℕ)) → length snapshot ≡ snapshot_length (ram_length_of (rom_of now.run)) → IsNextGiven Last snapshot left rest known
+  pub last_obeyed : (snapshot : List ℕ) (rest known written : Option (List ℕ)) → rom_of now.run ≡ rom → IsNextGiven Last rom snapshot left rest known
       → Appends since written (wrong_line number) → HasAnsweredAll start (record { unread = unread; left = known; before = before; since = written })
-  last_obeyed snapshot rest known written room next more = record {
+  last_obeyed snapshot rest known written is_rom next more = record {
     given = so_far.given ++ next.0 ∷ [];
     more = [];
     read = given_last asked so_far.given next.0 unread left known so_far.taken next.2;
     ends = inl (refl, next.2.2);
-    answered = told next.0 written (wrong_line number) (wrong_given (length snapshot) next.0 number now next.1 room).1 more;
+    answered = told next.0 written (wrong_line number) (wrong_given rom next.0 number now next.1 is_rom).1 more;
   }
 
-  pub last_broken : (snapshot : List ℕ) (rest known written : Option (List ℕ)) → length snapshot ≡ snapshot_length (ram_length_of (rom_of now.run)) → IsNextGiven Last snapshot left rest known
+  pub last_broken : (snapshot : List ℕ) (rest known written : Option (List ℕ)) → rom_of now.run ≡ rom → IsNextGiven Last rom snapshot left rest known
       → AppendsProperPrefix since written (wrong_line number) → HasBrokenOff start (record { unread = unread; left = known; before = before; since = written })
-  last_broken snapshot rest known written room next failed =
+  last_broken snapshot rest known written is_rom next failed =
       broken next.0 [] known written (wrong_line number) (given_last asked so_far.given next.0 unread left known so_far.taken next.2)
-      (wrong_given (length snapshot) next.0 number now next.1 room).1 failed
+      (wrong_given rom next.0 number now next.1 is_rom).1 failed
 
   -- the end, a read that failed, and as many lines as are read
-  pub ended : (snapshot : List ℕ) (rest known : Option (List ℕ)) → IsNextGiven End snapshot left rest known → HasAnsweredAll start (record { unread = unread; left = known; before = before; since = since })
+  pub ended : (snapshot : List ℕ) (rest known : Option (List ℕ)) → IsNextGiven End rom snapshot left rest known → HasAnsweredAll start (record { unread = unread; left = known; before = before; since = since })
   ended snapshot rest known next =
       record { given = so_far.given; more = []; read = given_rest asked so_far.given [] unread left known so_far.taken next.0; ends = inl (refl, next.1); answered = so_far.answered }
 
-  pub failed_to_read : (snapshot : List ℕ) (rest known : Option (List ℕ)) → IsNextGiven Failed snapshot left rest known → HasAnsweredSome start (record { unread = unread; left = known; before = before; since = since })
+  pub failed_to_read : (snapshot : List ℕ) (rest known : Option (List ℕ)) → IsNextGiven Failed rom snapshot left rest known → HasAnsweredSome start (record { unread = unread; left = known; before = before; since = since })
   failed_to_read snapshot rest known next =
       record { given = so_far.given; rest = next.0; unfinished = next.1; read = given_rest asked so_far.given next.0 unread left known so_far.taken next.2; answered = so_far.answered }
 

@@ -1,5 +1,5 @@
 -- The next line of an input, with the bytes that it asks for.
-use Rattle.std.proofs.Common.{◌≡◌, ◌≢◌, inl, inr, ℕ, zero, suc, ◌<◌, false, List, [], length, Option, None, Some, refl, sym, ap, ◌∙◌, arith}
+use Rattle.std.proofs.Common.{◌≡◌, ◌≢◌, inl, inr, ℕ, zero, suc, ◌<◌, false, List, [], ◌++◌, length, Option, None, Some, refl, sym, ap, ◌∙◌, arith, length-append}
 use Rattle.std.specs.Prelude.{nat_le}
 use Rattle.std.proofs.KnownBytes.{Consumes-nil}
 use Rattle.std.proofs.lemmas.Bool.{lt-leb}
@@ -8,9 +8,12 @@ use Rattle.input_lines.specs.Reading.{TakesLine}
 use Rattle.input_lines.specs.Given.{TakesGiven}
 use Rattle.input_lines.proofs.Givings.{takes_given, ends_within, unfinished}
 use Rattle.debugging.specs.Orders.{asked, asked_by, restore_of}
-use Rattle.debugging.specs.NextGiven.{IsNextGiven, IsTakenAsked}
-use Rattle.debugging.specs.declared.given.NextGiven.{NextGiven}
-use Rattle.debugging.specs.declared.given.NextGiven.TheVariants.{Line, State, Wrong, Last, End, Failed}
+use Rattle.debugging.specs.NextGiven.{IsNextGiven, given_by}
+use Rattle.machine_lines.specs.Taking.{HasTakenState}
+use Rattle.machine_lines.specs.declared.taking.TakenState.{TakenState}
+use Rattle.machine_lines.specs.declared.taking.TakenState.TheVariants.{Snapshot, Other, Nothing, End as FewerTaken, Failed as TakeFailed}
+use Rattle.state_header.specs.States.{header_of}
+use Rattle.state_header.proofs.States.{header_long, another_illegal}
 
 -- a line of more than 128 bytes is no `restore`
 pub long_asks_none : (line : List ℕ) → 128 < length line → restore_of line ≡ None
@@ -35,18 +38,27 @@ pub takes_plain : (line : List ℕ) (old new : Option (List ℕ)) → restore_of
 takes_plain line old new none one took = takes_given asked line [] old new new one (sym (by_none line none)) took (Consumes-nil new)
 
 -- bytes behind a line that asks for them
-module _ (line : List ℕ) (size : ℕ) (old mid : Option (List ℕ)) (asks : restore_of line ≡ Some size) (one : HasNoNewline line) (took : TakesLine line old mid) where
+module _ (line : List ℕ) (size : ℕ) (old mid : Option (List ℕ)) (asks : restore_of line ≡ Some size) (one : HasNoNewline line) (took_line : TakesLine line old mid) where
   by_some : asked line ≡ size
   by_some = rw asks refl
 
-  pub next_asked : (next : NextGiven) (snapshot : List ℕ) (new since : Option (List ℕ)) → IsTakenAsked next size snapshot mid new since → IsNextGiven next snapshot old new since
-  next_asked (Line text) snapshot new since taken = absurd taken
-  next_asked State snapshot new since taken =
-      (line, asks ∙ ap Some taken.0, takes_given asked line snapshot old mid new one (sym taken.0 ∙ sym by_some) took taken.1)
-  next_asked Wrong snapshot new since taken =
-      (record { line = line; bytes = taken.1.0 }, inr (size, asks, inr taken.0), takes_given asked line taken.1.0 old mid new one (taken.1.1 ∙ sym by_some) took taken.1.2)
-  next_asked Last snapshot new since taken =
-      let few : length taken.0 ≢ size = λ e. absurd (omega (arith, e, taken.1)) in
-      (record { line = line; bytes = taken.0 }, inr (size, asks, inl few), ends_within asked line taken.0 old mid since one (omega (arith, by_some, taken.1)) took taken.2 taken.3)
-  next_asked End snapshot new since taken = absurd taken
-  next_asked Failed snapshot new since taken = unfinished asked line taken.0 old mid since one (omega (arith, by_some, taken.1)) took taken.2
+  pub next_asked : (taken : TakenState) (rom snapshot : List ℕ) (new since : Option (List ℕ)) → HasTakenState taken rom size snapshot mid new since → IsNextGiven (given_by taken) rom snapshot old new since
+  next_asked Snapshot rom snapshot new since (is, took) =
+      let all : length (header_of rom ++ snapshot) ≡ size = omega (arith, is, length-append (header_of rom) snapshot, header_long rom) in
+      (line, asks ∙ ap Some (sym all), takes_given asked line (header_of rom ++ snapshot) old mid new one (all ∙ sym by_some) took_line took)
+  next_asked Other rom snapshot new since all =
+      (
+        record { line = line; bytes = all.bytes },
+        inr (size, asks, inr (another_illegal rom all.bytes all.are)),
+        takes_given asked line all.bytes old mid new one (all.long ∙ sym by_some) took_line all.took,
+      )
+  next_asked Nothing rom snapshot new since all =
+      (record { line = line; bytes = all.bytes }, inr (size, asks, inr all.are.0), takes_given asked line all.bytes old mid new one (all.long ∙ sym by_some) took_line all.took)
+  next_asked FewerTaken rom snapshot new since (short, is_end) =
+      let few : length short.bytes ≢ size = λ e. absurd (omega (arith, e, short.few)) in
+      (
+        record { line = line; bytes = short.bytes },
+        inr (size, asks, inl few),
+        ends_within asked line short.bytes old mid since one (omega (arith, by_some, short.few)) took_line short.took is_end,
+      )
+  next_asked TakeFailed rom snapshot new since short = unfinished asked line short.bytes old mid since one (omega (arith, by_some, short.few)) took_line short.took

@@ -1,8 +1,11 @@
--- A machine that is given as its snapshot.
-use Rattle.std.proofs.Common.{◌≡◌, ◌≢◌, ◌⊎◌, inl, inr, ℕ, Bool, true, false, List, [], ◌∷◌, length, refl, sym, ap, subst, ◌∙◌, ◌==◌}
+-- A machine that is given as its snapshot, or as its state.
+use Rattle.std.proofs.Common.{◌≡◌, ◌≢◌, ◌⊎◌, inl, inr, ℕ, Bool, true, false, List, [], ◌∷◌, ◌++◌, length, take, refl, sym, ap, subst, ◌∙◌, ◌==◌}
+use Rattle.std.specs.Prelude.{if◌then◌else◌}
 use Rattle.std.specs.List.{All, list_all}
 use Rattle.std.proofs.lemmas.Bool.{eqb-true, eq-eqb, and_parts}
 use Rattle.std.proofs.lemmas.List.Elements.{All-nil, All-cons, All-head, All-tail}
+use Rattle.std.specs.Str.{bytes_eq}
+use Rattle.std.proofs.lemmas.Slice.Eq.{bytes_eq-Decides}
 use Rattle.cartridge.specs.Header.{ram_length_of}
 use Rattle.machine.specs.Machine.{MachineState}
 use Rattle.snapshot.specs.declared.field.SnapshotField.{SnapshotField}
@@ -11,10 +14,12 @@ use Rattle.snapshot.specs.Legal.{IsMachineOf, IsOfImage, IsLegalSnapshot}
 use Rattle.snapshot.specs.Reading.{machine_in}
 use Rattle.snapshot.specs.Table.{is_legal, table_of}
 use Rattle.snapshot.proofs.Machines.{machine_back, encoded_legal}
+use Rattle.state_header.specs.States.{header_of, snapshot_in, IsLegalState}
+use Rattle.state_header.proofs.States.{header_is, header_long, rest_is}
 use Rattle.debugger.specs.History.{DebuggerState}
 use Rattle.sm83_processor.specs.declared.step.Executed.{Executed}
 use Rattle.debugging.specs.Run.{RunState}
-use Rattle.debugging.specs.States.{is_given, is_snapshot, rom_of}
+use Rattle.debugging.specs.States.{after_snapshot, is_given, is_snapshot, is_state, restored, rom_of}
 use Rattle.debugging.specs.Answers.{after_restore}
 
 all_true : {X : Type 0} (p : X → Bool) (xs : List X) → All (λ x. p x ≡ true) xs → list_all p xs ≡ true
@@ -37,31 +42,28 @@ not_true : (b : Bool) → (b ≡ true → ⊥) → b ≡ false
 not_true true never = absurd (never refl)
 not_true false never = refl
 
-itself : (bytes : List ℕ) → (length bytes == length bytes) ≡ true
-itself bytes = eq-eqb (length bytes) (length bytes) refl
-
-pub is_given_legal : (rom bytes : List ℕ) (r : RunState) → rom_of r ≡ rom → IsLegalSnapshot rom bytes → is_given (length bytes) bytes r ≡ true
-is_given_legal rom bytes r is legal = rw (itself bytes, is) (legal_is rom bytes legal)
-
-pub is_given_illegal : (rom bytes : List ℕ) (r : RunState) → rom_of r ≡ rom → (IsLegalSnapshot rom bytes → ⊥) → is_given (length bytes) bytes r ≡ false
-is_given_illegal rom bytes r is illegal = rw (itself bytes, is) (not_true (is_snapshot rom bytes) (λ e. illegal (is_legal_snapshot rom bytes e)))
+illegal_is : (rom bytes : List ℕ) → (IsLegalSnapshot rom bytes → ⊥) → is_snapshot rom bytes ≡ false
+illegal_is rom bytes illegal = not_true (is_snapshot rom bytes) (λ e. illegal (is_legal_snapshot rom bytes e))
 
 pub given_machine : (rom bytes : List ℕ) (m : MachineState) → IsMachineOf rom m → encoded m ≡ bytes → IsLegalSnapshot rom bytes × (machine_in rom bytes ≡ m)
 given_machine rom bytes m of same =
     (subst (IsLegalSnapshot rom) same (encoded_legal rom m of), ap (machine_in rom) (sym same) ∙ machine_back rom m of)
 
 module _ (rom bytes : List ℕ) (r : RunState) (of : IsOfImage rom r.debugger.machine) where
+  own : is_snapshot (rom_of r) bytes ≡ is_snapshot rom bytes
+  own = ap (λ (x : List ℕ). is_snapshot x bytes) of.rom
+
   pub machine_given : (m : MachineState) → IsMachineOf rom m → encoded m ≡ bytes
-      → (is_given (length bytes) bytes r ≡ true) × (after_restore (length bytes) bytes r ≡ record r { debugger = record r.debugger { machine = m; history = [] } })
+      → (is_snapshot (rom_of r) bytes ≡ true) × (after_snapshot bytes r ≡ record r { debugger = record r.debugger { machine = m; history = [] } })
   machine_given m is same =
       let made = given_machine rom bytes m is same in
-      let t = is_given_legal rom bytes r of.rom made.0 in
+      let t = own ∙ legal_is rom bytes made.0 in
       let here : machine_in (rom_of r) bytes ≡ m = ap (λ (x : List ℕ). machine_in x bytes) of.rom ∙ made.1 in
       (t, rw (t, here) refl)
 
-  pub nothing_given : (IsLegalSnapshot rom bytes → ⊥) → (is_given (length bytes) bytes r ≡ false) × (after_restore (length bytes) bytes r ≡ r)
+  pub nothing_given : (IsLegalSnapshot rom bytes → ⊥) → (is_snapshot (rom_of r) bytes ≡ false) × (after_snapshot bytes r ≡ r)
   nothing_given illegal =
-      let f = is_given_illegal rom bytes r of.rom illegal in
+      let f = own ∙ illegal_is rom bytes illegal in
       (f, rw f refl)
 
 -- a run of the parts of another one
@@ -73,13 +75,35 @@ pub same_run : (r : RunState) (d : DebuggerState) (m : MachineState) (size : ℕ
     → size ≡ r.debugger.size → history ≡ r.debugger.history → sent ≡ r.sent → record { debugger = d; sent = sent } ≡ r
 same_run r d m size history sent is machine same all kept = rw (is, machine, same, all, kept) refl
 
--- bytes that are not as many as they are said to be, or as a snapshot has
+-- ---- behind a line
+
 not_equal : (a b : ℕ) → (a ≡ b → ⊥) → (a == b) ≡ false
 not_equal a b never = not_true (a == b) (λ e. never (eqb-true a b e))
 
-pub is_given_short : (n : ℕ) (bytes : List ℕ) (r : RunState) → (length bytes ≢ n) ⊎ (n ≢ snapshot_length (ram_length_of (rom_of r))) → is_given n bytes r ≡ false
-is_given_short n bytes r (inl other) = rw (not_equal (length bytes) n other) refl
-is_given_short n bytes r (inr other) = not_true (is_given n bytes r) (λ e.
+is_legal_state : (rom bytes : List ℕ) → is_state rom bytes ≡ true → IsLegalState rom bytes
+is_legal_state rom bytes e =
     let both = and_parts _ _ e in
-    let legal = and_parts _ _ both.1 in
-    other (sym (eqb-true _ _ both.0) ∙ eqb-true _ _ legal.0))
+    record { header = (bytes_eq-Decides (take 40 bytes) (header_of rom)).0 both.0; snapshot = is_legal_snapshot rom (snapshot_in bytes) both.1 }
+
+-- bytes that are not as many as they are said to be, or no state
+pub not_given : (rom : List ℕ) (n : ℕ) (bytes : List ℕ) (r : RunState) → rom_of r ≡ rom → (length bytes ≢ n) ⊎ (IsLegalState rom bytes → ⊥) → is_given n bytes r ≡ false
+not_given rom n bytes r is (inl other) = rw (not_equal (length bytes) n other) refl
+not_given rom n bytes r is (inr illegal) = not_true (is_given n bytes r) (λ e.
+    illegal (is_legal_state rom bytes (ap (λ (x : List ℕ). is_state x bytes) (sym is) ∙ (and_parts _ _ e).1)))
+
+-- a header of this ROM, and any bytes
+module _ (rom snapshot : List ℕ) (r : RunState) (is : rom_of r ≡ rom) where
+  abbrev bytes : List ℕ
+  bytes = header_of rom ++ snapshot
+
+  pub given_is : is_given (length bytes) bytes r ≡ is_snapshot (rom_of r) snapshot
+  given_is =
+      let all : (length bytes == length bytes) ≡ true = eq-eqb (length bytes) (length bytes) refl in
+      let header : bytes_eq (take 40 bytes) (header_of (rom_of r)) ≡ true =
+      (bytes_eq-Decides (take 40 bytes) (header_of (rom_of r))).1 (header_is (header_of rom) snapshot (header_long rom) ∙ ap header_of (sym is)) in
+      rw (all, header) (ap (is_snapshot (rom_of r)) (rest_is (header_of rom) snapshot (header_long rom)))
+
+  pub after_is : after_restore (length bytes) bytes r ≡ after_snapshot snapshot r
+  after_is =
+      ap (λ (b : Bool). if b then restored (snapshot_in bytes) r else r) given_is
+      ∙ ap (λ (s : List ℕ). if is_snapshot (rom_of r) snapshot then restored s r else r) (rest_is (header_of rom) snapshot (header_long rom))

@@ -16,9 +16,9 @@ use Rattle.debugging.specs.declared.order.StateOrder.{StateOrder}
 use Rattle.debugging.specs.declared.error.DebugError.{DebugError}
 use Rattle.debugging.specs.declared.error.DebugError.TheVariants.{Input, Output, Memory}
 use Rattle.debugging.specs.Run.{RunState, processor_of}
-use Rattle.debugging.specs.States.{is_given}
+use Rattle.debugging.specs.States.{after_snapshot, is_snapshot, rom_of}
 use Rattle.debugging.specs.KeptStates.{DebugState}
-use Rattle.debugging.specs.Answers.{after_back, after_restore, after_state_order, answer_back, answer_state_order, takes_memory}
+use Rattle.debugging.specs.Answers.{after_back, after_state_order, answer_back, answer_state_order, takes_memory}
 use Rattle.debugging.specs.Switching.{HasSwitched, IsNotSwitched, IsRefusedAnswer, back_text}
 use Rattle.debugging.proofs.Restoring.{machine_given, nothing_given}
 use Rattle.machine_lines.proofs.SlotLaws.{none_legal}
@@ -56,9 +56,9 @@ same_as_start rom m of = record {
 
 module _ (rom bytes : List ℕ) (r : RunState) (of : IsOfImage rom r.debugger.machine) where
   pub back_is : (machines : List KeptMachine) (o : Option MachineState) → IsKeptAs rom bytes o
-      → (after_restore (length bytes) bytes r ≡ (after_back o (record { run = r; kept = machines })).run)
+      → (after_snapshot bytes r ≡ (after_back o (record { run = r; kept = machines })).run)
       × ((after_back o (record { run = r; kept = machines })).kept ≡ machines)
-      × ((n number : ℕ) → back_text (is_given (length bytes) bytes r) n number ≡ answer_back o n number)
+      × ((n number : ℕ) → back_text (is_snapshot (rom_of r) bytes) n number ≡ answer_back o n number)
   back_is machines None none =
       let it = nothing_given rom bytes r of (λ legal. none_legal rom (subst (IsLegalSnapshot rom) none legal)) in
       (it.1, refl, λ n number. rw it.0 refl)

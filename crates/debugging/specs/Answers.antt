@@ -13,6 +13,7 @@ use Rattle.sm83_processor.specs.declared.processor.Processor.{Processor}
 use Rattle.sm83_processor.specs.declared.step.Executed.{Executed}
 use Rattle.machine.specs.Machine.{MachineState, picture_rows}
 use Rattle.snapshot.specs.Encoding.{encoded}
+use Rattle.state_header.specs.States.{snapshot_in, state_of}
 use Rattle.debugger.specs.Listing.{lines_from}
 use Rattle.debugger.specs.Registers.{register_line}
 use Rattle.debugger.specs.Report.{line_seen, step_lines}
@@ -119,7 +120,7 @@ answer_from (Memory address n) old new = memory_text old.debugger.machine addres
 answer_from (Bank address) old new = bank_line (bank_at (processor_of old).memory address)
 answer_from Serial old new = serial_text old.sent
 answer_from Picture old new = picture_text (picture_rows old.debugger.machine)
-answer_from State old new = state_text (encoded old.debugger.machine)
+answer_from State old new = state_text (state_of old.debugger.machine)
 answer_from Digest old new = digest_text old.debugger.machine
 
 abbrev pub answer_to : Order → RunState → List ℕ
@@ -145,12 +146,16 @@ after_line line r = if length line == 0 then r else after_asked (order_of line) 
 abbrev pub answer_line : List ℕ → (number : ℕ) → RunState → List ℕ
 answer_line line number r = if length line == 0 then [] else answer_asked (order_of line) number r
 
--- `restore N` and the bytes behind it: where they are no snapshot, nothing is done
+-- `restore N` and the bytes behind it: where they are no state of the cartridge, nothing is done
 abbrev pub after_restore : (n : ℕ) → (bytes : List ℕ) → RunState → RunState
-after_restore n bytes r = if is_given n bytes r then restored bytes r else r
+after_restore n bytes r = if is_given n bytes r then restored (snapshot_in bytes) r else r
+
+-- by whether there was a machine
+abbrev pub restored_text : Bool → (number : ℕ) → List ℕ
+restored_text is_there number = if is_there then codes "restored\n" else wrong_line number
 
 abbrev pub answer_restore : (n : ℕ) → (bytes : List ℕ) → (number : ℕ) → RunState → List ℕ
-answer_restore n bytes number r = if is_given n bytes r then codes "restored\n" else wrong_line number
+answer_restore n bytes number r = restored_text (is_given n bytes r) number
 
 -- ---- the power switch, states that are kept, and a run that is measured
 

@@ -10,8 +10,9 @@ ghost use Rattle.snapshot.specs.Legal.{IsOfImage};
 ghost use Rattle.std.specs.List.{flat_map};
 ghost use Rattle.debugger.specs.Registers.{register_line};
 ghost use Rattle.debugger.specs.Report.{line_seen, step_lines};
-ghost use Rattle.debugging.specs.Answers.{after_line, after_order, answer_line, answer_to, history_text, after_restore, answer_restore, digest_line, digest_text, place_text, serial_text, wrong_line};
+ghost use Rattle.debugging.specs.Answers.{after_line, after_order, answer_line, answer_to, history_text, restored_text, digest_line, digest_text, place_text, serial_text, wrong_line};
 ghost use Rattle.debugging.specs.Answers.{bank_line};
+ghost use Rattle.debugging.specs.States.{after_snapshot, is_snapshot, rom_of};
 ghost use Rattle.debugging.specs.Banks.{bank_at};
 ghost use Rattle.debugging.specs.Quiet.{HasRom};
 ghost use Rattle.debugging.specs.Run.{after_steps_of, processor_of};
@@ -42,10 +43,12 @@ pub(crate) fn answer<W: Output>(
     line: &[u8],
     number: u64,
     rom: usize,
+    cartridge: &Cartridge,
     snapshot: &mut [u8],
     out: &mut W,
 ) -> Answered
     requires rom { HasRom rom (processor_of run).memory }
+    requires of { (processor_of run).memory.banks.rom ≡ cartridge.now }
     requires snapshot { length snapshot.old ≡ snapshot_length (length (processor_of run).memory.banks.ram) }
     ensures run { OnOk result.written (result.run ≡ after_line line.now run) }
     ensures ok { OnOk result.written
@@ -62,7 +65,7 @@ pub(crate) fn answer<W: Output>(
         };
     }
     match read_order(line) {
-        Some(order) => obey(run, order, rom, snapshot, out),
+        Some(order) => obey(run, order, rom, cartridge, snapshot, out),
         None => {
             let written = write_wrong(number, out);
             Answered { run, written }
@@ -70,25 +73,26 @@ pub(crate) fn answer<W: Output>(
     }
 }
 
-/// Makes the machine the one of these bytes, if they are a snapshot of the cartridge, and answers it. Condition: the machine is one of it.
+/// Makes the machine the one of this snapshot, if it is one of the cartridge, and answers it. Condition: the machine is one of it.
 pub(crate) fn restore<W: Output>(
     run: Run,
     cartridge: &Cartridge,
-    bytes: &[u8],
+    snapshot: &[u8],
     number: u64,
     out: &mut W,
 ) -> Answered
     requires { IsOfImage cartridge.now run.debugger.machine }
     ensures of { IsOfImage cartridge.now result.run.debugger.machine }
-    ensures run { OnOk result.written (result.run ≡ after_restore (length bytes.now) bytes.now run) }
+    ensures run { OnOk result.written (result.run ≡ after_snapshot snapshot.now run) }
     ensures ok { OnOk result.written
-        (Appends (W.contents out.old) (W.contents out.new) (answer_restore (length bytes.now) bytes.now number run)) }
+        (Appends (W.contents out.old) (W.contents out.new)
+        (restored_text (is_snapshot (rom_of run) snapshot.now) number)) }
     ensures err { OnErr result.written
         (AppendsProperPrefix (W.contents out.old) (W.contents out.new)
-        (answer_restore (length bytes.now) bytes.now number run)) }
+        (restored_text (is_snapshot (rom_of run) snapshot.now) number)) }
     ensures failed { OnErr result.written (W.has_failed out.new ≡ true) }
 {
-    let RunRestored { run, is_restored } = run.restore(cartridge, bytes);
+    let RunRestored { run, is_restored } = run.restore(cartridge, snapshot);
     let written = write_restored(is_restored, number, out);
     Answered { run, written }
 }
@@ -99,9 +103,9 @@ fn write_restored<W: Output>(
     out: &mut W,
 ) -> Result<(), OutputFailed>
     ensures ok { OnOk result (Appends (W.contents out.old) (W.contents out.new)
-        (if is_restored then codes "restored\n" else wrong_line number)) }
+        (restored_text is_restored number)) }
     ensures err { OnErr result (AppendsProperPrefix (W.contents out.old) (W.contents out.new)
-        (if is_restored then codes "restored\n" else wrong_line number)) }
+        (restored_text is_restored number)) }
     ensures failed { OnErr result (W.has_failed out.new ≡ true) }
 {
     if is_restored {
@@ -131,8 +135,16 @@ fn wrong_text(number: u64) -> ArrayString<32>
 }
 
 /// Does what an order asks for, and answers it.
-fn obey<W: Output>(run: Run, order: Order, rom: usize, snapshot: &mut [u8], out: &mut W) -> Answered
+fn obey<W: Output>(
+    run: Run,
+    order: Order,
+    rom: usize,
+    cartridge: &Cartridge,
+    snapshot: &mut [u8],
+    out: &mut W,
+) -> Answered
     requires rom { HasRom rom (processor_of run).memory }
+    requires of { (processor_of run).memory.banks.rom ≡ cartridge.now }
     requires snapshot { length snapshot.old ≡ snapshot_length (length (processor_of run).memory.banks.ram) }
     ensures run { OnOk result.written (result.run ≡ after_order order run) }
     ensures ok { OnOk result.written (Appends (W.contents out.old) (W.contents out.new) (answer_to order run)) }
@@ -202,7 +214,7 @@ fn obey<W: Output>(run: Run, order: Order, rom: usize, snapshot: &mut [u8], out:
         }
         Order::State => {
             let run = run.draw_late();
-            let written = write_state(run.debugger().machine(), snapshot, out);
+            let written = write_state(run.debugger().machine(), cartridge, snapshot, out);
             Answered { run, written }
         }
         Order::Digest => {

@@ -1,22 +1,26 @@
 //! The next line of an input, with the bytes that it asks for.
 
 ghost use Rattle.std.specs.Prelude.{◌≡◌, length, true};
+ghost use Rattle.cartridge.specs.Header.{ram_length_of};
+ghost use Rattle.snapshot.specs.Encoding.{snapshot_length};
 ghost use Rattle.input_lines.specs.Reading.{left_of};
 ghost use Rattle.debugging.specs.Orders.{asked};
-ghost use Rattle.debugging.specs.NextGiven.{IsNextGiven, IsTakenAsked};
+ghost use Rattle.debugging.specs.NextGiven.{IsNextGiven, given_by};
 
 use crate::order::read_restore;
 use arrayvec::ArrayVec;
-use input_lines::{LineInput, NextLine, Taken, Unread, next_line, skip_bytes, take_bytes};
+use cartridge::Cartridge;
+use input_lines::{LineInput, NextLine, Unread, next_line};
+use machine_lines::{TakenState, take_state};
 
 /// What comes next.
 #[derive(Drop)]
 pub(crate) enum NextGiven {
     /// A line that asks for no bytes, without its newline.
     Line(ArrayVec<u8, 128>),
-    /// `restore N` and its N bytes, as many as a snapshot has.
+    /// `restore N` and N bytes, which are a state of the cartridge by their header and their number.
     State,
-    /// A line of more than 128 bytes; or `restore N` and N bytes, which are fewer or more than a snapshot has.
+    /// A line of more than 128 bytes; or `restore N` and N bytes, which are no state of the cartridge.
     Wrong,
     /// `restore N` and fewer bytes, up to the end of the input.
     Last,
@@ -36,40 +40,28 @@ fn asked(line: &[u8]) -> u32
     }
 }
 
-/// Takes the bytes that a line asks for: as many as a snapshot has into `snapshot`.
-fn take_asked<R: LineInput>(
-    unread: &mut Unread,
-    input: &mut R,
-    snapshot: &mut [u8],
-    size: usize,
-) -> NextGiven
-    ensures taken { IsTakenAsked result size snapshot.new (left_of unread.old.items (R.remaining input.old))
-        (left_of unread.new.items (R.remaining input.new))
-        (R.remaining input.new) }
-    ensures room { length snapshot.new ≡ length snapshot.old }
-    ensures failed { result ≡ NextGiven.Failed → R.has_failed input.new ≡ true }
+/// What comes next, by how the state behind a `restore` was taken.
+fn given_by(taken: TakenState) -> NextGiven
+    ensures given { result ≡ given_by taken }
 {
-    if size == snapshot.len() {
-        return match take_bytes(unread, input, snapshot) {
-            Taken::All => NextGiven::State,
-            Taken::End => NextGiven::Last,
-            Taken::Failed => NextGiven::Failed,
-        };
-    }
-    match skip_bytes(unread, input, size) {
-        Taken::All => NextGiven::Wrong,
-        Taken::End => NextGiven::Last,
-        Taken::Failed => NextGiven::Failed,
+    match taken {
+        TakenState::Snapshot => NextGiven::State,
+        TakenState::Other | TakenState::Nothing => NextGiven::Wrong,
+        TakenState::End => NextGiven::Last,
+        TakenState::Failed => NextGiven::Failed,
     }
 }
 
-/// Reads the next line, and the bytes that it asks for: those of `State` stand in `snapshot` then.
+/// Reads the next line, and the bytes that it asks for: the snapshot of `State` stands in `snapshot` then. Condition: it has as many bytes as one of
+/// the cartridge.
 pub(crate) fn next_given<R: LineInput>(
     unread: &mut Unread,
     input: &mut R,
     snapshot: &mut [u8],
+    cartridge: &Cartridge,
 ) -> NextGiven
-    ensures given { IsNextGiven result snapshot.new (left_of unread.old.items (R.remaining input.old))
+    requires { length snapshot.old ≡ snapshot_length (ram_length_of cartridge.now) }
+    ensures given { IsNextGiven result cartridge.now snapshot.new (left_of unread.old.items (R.remaining input.old))
         (left_of unread.new.items (R.remaining input.new))
         (R.remaining input.new) }
     ensures room { length snapshot.new ≡ length snapshot.old }
@@ -81,7 +73,7 @@ pub(crate) fn next_given<R: LineInput>(
             if size == 0 {
                 return NextGiven::Line(line);
             }
-            take_asked(unread, input, snapshot, size as usize)
+            given_by(take_state(unread, input, size as usize, snapshot, cartridge))
         }
         NextLine::TooLong => NextGiven::Wrong,
         NextLine::End => NextGiven::End,

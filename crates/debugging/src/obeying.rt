@@ -103,15 +103,15 @@ impl LineDebugger {
     /// | `bank ADDR` | nothing | `bank XXXX`, the number of the bank that is mapped at an address, or 0 |
     /// | `serial` | nothing | `serial K`, K bytes that were sent since the last `serial`, at most the last 65,536, and a newline |
     /// | `picture` | nothing | the picture as plain PGM |
-    /// | `state` | nothing | `state K`, and the K bytes of the machine's snapshot |
-    /// | `restore K`, and K bytes | the machine becomes the one of this snapshot; the history is empty then | `restored` |
+    /// | `state` | nothing | `state K`, and the K bytes of the machine's state |
+    /// | `restore K`, and K bytes | the machine becomes the one of this state; the history is empty then | `restored` |
     /// | `digest` | nothing | `digest` and the SHA-256 of the machine's snapshot |
     /// | `power` | the power switch, off and on: RAM and clock stay where the cartridge has a battery; the history is empty then | `done` |
     /// | `keep N` | nothing; the machine is kept under N, 0 to 999, in place of one that was | `kept N` |
     /// | `back N` | the machine becomes the one that was kept last under N; the history is empty then. The line is wrong where none was | `back N` |
     /// | `profile N PLACE..` | steps as `until` makes them, or N where there is no place | that of `until`; `elsewhere` and the M-cycles of steps that ran no instruction of ROM; `profile K`, and K lines: BANK:ADDR of each byte of ROM with which instructions began, and the M-cycles that they took |
     ///
-    /// The bytes of `restore` stand right behind its newline, and the next line behind them. Where they are no snapshot of this cartridge,
+    /// The bytes of `restore` stand right behind its newline, and the next line behind them. Where they are no state of this cartridge,
     /// or fewer to the end of the input, nothing is done, and the line is wrong. So it is, with no bytes behind it, where K is more than 1,048,576.
     ///
     /// Refusals: input failed, once every line that is whole, with its bytes, is answered; output failed, where a proper prefix of the answers went
@@ -150,7 +150,7 @@ impl LineDebugger {
         let mut unread = ArrayVec::new();
         let mut ended = Ok(());
         for number in 1..u64::MAX {
-            let written = match next_given(&mut unread, input, &mut snapshot) {
+            let written = match next_given(&mut unread, input, &mut snapshot, cartridge) {
                 NextGiven::Line(line) => {
                     if let Some(order) = read_state_order(line.as_slice()) {
                         run = match switch(alloc, cartridge, run, &mut kept, order, number, out) {
@@ -159,7 +159,15 @@ impl LineDebugger {
                         };
                         continue;
                     }
-                    let answered = answer(run, line.as_slice(), number, rom, &mut snapshot, out);
+                    let answered = answer(
+                        run,
+                        line.as_slice(),
+                        number,
+                        rom,
+                        cartridge,
+                        &mut snapshot,
+                        out,
+                    );
                     run = answered.run;
                     answered.written
                 }

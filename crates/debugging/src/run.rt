@@ -8,9 +8,9 @@ ghost use Rattle.sm83_processor.specs.Steps.{step_of};
 ghost use Rattle.memory_map.specs.State.{BusState};
 ghost use Rattle.sm83_processor.specs.declared.processor.Processor.{Processor};
 ghost use Rattle.snapshot.specs.Legal.{IsOfImage};
-ghost use Rattle.debugging.specs.States.{after_power, is_given, with_machine};
+ghost use Rattle.debugging.specs.States.{after_power, after_snapshot, is_snapshot, rom_of, with_machine};
 ghost use Rattle.debugging.specs.Setting.{byte_set, register_set};
-ghost use Rattle.debugging.specs.Answers.{after_restore, until_change_steps, until_opcode_steps, until_read_steps, until_steps, until_write_steps};
+ghost use Rattle.debugging.specs.Answers.{until_change_steps, until_opcode_steps, until_read_steps, until_steps, until_write_steps};
 ghost use Rattle.debugger.specs.Run.{HasPassed};
 ghost use Rattle.debugging.specs.Run.{after_frame, after_frames, after_seconds, after_steps_of, begun, is_at, is_bank, is_before, is_changed, is_place, processor_of, steps_up_to};
 ghost use Rattle.debugging.specs.Quiet.{HasRom, IsQuietFor, Makes, MakesIn, StopsBefore, StopsIn, has_pc, is_aim, is_interrupted, is_next, is_waiting};
@@ -386,16 +386,16 @@ impl Run {
         }
     }
 
-    /// Makes the machine the one of these bytes, if they are a snapshot of the cartridge. Condition: the machine is one of it.
-    pub(crate) fn restore(self, cartridge: &Cartridge, bytes: &[u8]) -> RunRestored
+    /// Makes the machine the one of this snapshot, if it is one of the cartridge. Condition: the machine is one of it.
+    pub(crate) fn restore(self, cartridge: &Cartridge, snapshot: &[u8]) -> RunRestored
         requires { IsOfImage cartridge.now self.debugger.machine }
-        ensures run { result.run ≡ after_restore (length bytes.now) bytes.now self }
-        ensures restored { result.is_restored ≡ is_given (length bytes.now) bytes.now self }
+        ensures run { result.run ≡ after_snapshot snapshot.now self }
+        ensures restored { result.is_restored ≡ is_snapshot (rom_of self) snapshot.now }
         ensures of { IsOfImage cartridge.now result.run.debugger.machine }
     {
         let Run { debugger, sent } = self;
         let (mut machine, mut kept) = debugger.into_parts();
-        match decode_into(bytes, cartridge, &mut machine) {
+        match decode_into(snapshot, cartridge, &mut machine) {
             Ok(()) => {
                 kept.clear();
                 RunRestored {

@@ -6,14 +6,14 @@ ghost use Rattle.exact_text.specs.Written.{AppendsProperPrefix};
 ghost use Rattle.machine.specs.Legal.{IsLegalMachine};
 ghost use Rattle.snapshot.specs.Encoding.{encoded, snapshot_length};
 ghost use Rattle.snapshot.specs.Legal.{IsOfImage};
-ghost use Rattle.debugging.specs.Answers.{after_restore, place_text, profile_text, until_steps};
+ghost use Rattle.debugging.specs.Answers.{place_text, profile_text, until_steps};
 ghost use Rattle.debugging.specs.Profile.{cycles_text};
 ghost use Rattle.machine_lines.specs.Texts.{count_line};
 ghost use Rattle.machine_lines.specs.KeptStates.{slots, KeptMachine};
 ghost use Rattle.debugging.specs.Run.{after_steps_of, processor_of};
 ghost use Rattle.debugging.specs.Numbers.{IsNumbered};
 ghost use Rattle.machine_lines.specs.Slots.{AreKept, state_under};
-ghost use Rattle.debugging.specs.States.{after_power, is_given};
+ghost use Rattle.debugging.specs.States.{after_power, after_snapshot, is_snapshot, rom_of};
 ghost use Rattle.debugging.specs.Switching.{HasSwitched, IsNotSwitched, IsRefusedAnswer, back_text};
 
 use crate::answering::{write_place, write_wrong};
@@ -198,24 +198,24 @@ fn keep<W: Output>(
 fn back<W: Output>(
     cartridge: &Cartridge,
     run: Run,
-    bytes: &[u8],
+    snapshot: &[u8],
     slot: u32,
     number: u64,
     out: &mut W,
 ) -> Result<Run, DebugError>
     requires { IsOfImage cartridge.now run.debugger.machine }
     ensures of { IfOk result (λ now. IsOfImage cartridge.now now.debugger.machine) }
-    ensures run { IfOk result (λ now. now ≡ after_restore (length bytes.now) bytes.now run) }
+    ensures run { IfOk result (λ now. now ≡ after_snapshot snapshot.now run) }
     ensures ok { OnOk result
         (Appends (W.contents out.old) (W.contents out.new)
-        (back_text (is_given (length bytes.now) bytes.now run) slot number)) }
+        (back_text (is_snapshot (rom_of run) snapshot.now) slot number)) }
     ensures err { OnErr result
         (AppendsProperPrefix (W.contents out.old) (W.contents out.new)
-        (back_text (is_given (length bytes.now) bytes.now run) slot number)) }
+        (back_text (is_snapshot (rom_of run) snapshot.now) slot number)) }
     ensures output { IfErr result (λ why. why ≡ DebugError.Output) }
     ensures failed { IfErr result (λ why. why ≡ DebugError.Output → W.has_failed out.new ≡ true) }
 {
-    let RunRestored { run, is_restored } = run.restore(cartridge, bytes);
+    let RunRestored { run, is_restored } = run.restore(cartridge, snapshot);
     match write_back(is_restored, slot, number, out) {
         Ok(()) => Ok(run),
         Err(_) => {

@@ -6,7 +6,7 @@ use Rattle.battery_files.specs.Importing.{is_taken_length}
 use Rattle.command_line.specs.declared.Request.TheVariants.{Import}
 use Rattle.gbkeep.specs.Program.{IsBatteryFault, IsRefused}
 use Rattle.gbkeep.specs.declared.fault.Fault.{Fault}
-use Rattle.gbkeep.specs.declared.fault.Fault.TheVariants.{Cart, Memory, File, Output, Address, Word, Device, Script, Session, Line, Input, Snapshot, Recording, Behind, Ahead, Differ, OtherRecording, RecordedGame, TestFailed, TestUndecided, NoBattery, BatteryLength}
+use Rattle.gbkeep.specs.declared.fault.Fault.TheVariants.{Cart, Memory, File, Output, Address, Word, Device, Script, Session, Line, Input, Snapshot, OtherState, Recording, Behind, Ahead, Differ, OtherRecording, RecordedGame, TestFailed, TestUndecided, NoBattery, BatteryLength}
 
 pub accepted_image : (rom image : List ℕ) → image ≡ rom → IsAccepted rom → IsAccepted image
 accepted_image rom image is accepted = subst (λ (r : List ℕ). IsAccepted r) (sym is) accepted
@@ -27,6 +27,7 @@ battery_refused rom contents accepted cart battery save sectors old new keeps (S
 battery_refused rom contents accepted cart battery save sectors old new keeps (Line number) is = absurd is
 battery_refused rom contents accepted cart battery save sectors old new keeps Input is = absurd is
 battery_refused rom contents accepted cart battery save sectors old new keeps Snapshot is = absurd is
+battery_refused rom contents accepted cart battery save sectors old new keeps OtherState is = absurd is
 battery_refused rom contents accepted cart battery save sectors old new keeps (Recording why) is = absurd is
 battery_refused rom contents accepted cart battery save sectors old new keeps (Behind count) is = absurd is
 battery_refused rom contents accepted cart battery save sectors old new keeps (Ahead count) is = absurd is

@@ -8,7 +8,7 @@ use Rattle.gbkeep.specs.Beginning.{IsUntold, begun_line}
 use Rattle.gbkeep.specs.Program.{IsServed}
 use Rattle.gbkeep.specs.Request.{HasAddress, HasDevice, IsDone, IsOutputRefused}
 use Rattle.gbkeep.specs.declared.fault.Fault.{Fault}
-use Rattle.gbkeep.specs.declared.fault.Fault.TheVariants.{Cart, Memory, File, Output, Address, Word, Device, Script, Session, Line, Input, Snapshot, Recording, Behind, Ahead, Differ, OtherRecording, RecordedGame, TestFailed, TestUndecided, NoBattery, BatteryLength}
+use Rattle.gbkeep.specs.declared.fault.Fault.TheVariants.{Cart, Memory, File, Output, Address, Word, Device, Script, Session, Line, Input, Snapshot, OtherState, Recording, Behind, Ahead, Differ, OtherRecording, RecordedGame, TestFailed, TestUndecided, NoBattery, BatteryLength}
 
 pub begun_served : (request : Request) (old new : Option (List ℕ)) → HasAddress request → HasDevice request
     → (Appends old new begun_line → IsDone request old new) → (AppendsProperPrefix old new begun_line → IsOutputRefused request old new)
@@ -26,6 +26,7 @@ begun_served request old new address device done cut (Err (Session fault)) writt
 begun_served request old new address device done cut (Err (Line number)) written cause = absurd cause
 begun_served request old new address device done cut (Err Input) written cause = absurd cause
 begun_served request old new address device done cut (Err Snapshot) written cause = absurd cause
+begun_served request old new address device done cut (Err OtherState) written cause = absurd cause
 begun_served request old new address device done cut (Err (Recording fault)) written cause = absurd cause
 begun_served request old new address device done cut (Err (Behind count)) written cause = absurd cause
 begun_served request old new address device done cut (Err (Ahead count)) written cause = absurd cause

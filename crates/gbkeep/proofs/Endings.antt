@@ -6,7 +6,7 @@ use Rattle.test_run.specs.declared.verdict.Verdict.TheVariants.{Failed, Undecide
 use Rattle.replaying.specs.declared.error.VerifyError.TheVariants.{Behind as RecordingBehind, Differ as MachinesDiffer}
 use Rattle.gbkeep.specs.declared.words.Asked.TheVariants.{Command}
 use Rattle.gbkeep.specs.declared.fault.Fault.{Fault}
-use Rattle.gbkeep.specs.declared.fault.Fault.TheVariants.{Cart, Memory, File, Output, Address, Word, Device, Script, Session, Line, Input, Snapshot, Recording, Behind, Ahead, Differ, OtherRecording, RecordedGame, TestFailed, TestUndecided, NoBattery, BatteryLength}
+use Rattle.gbkeep.specs.declared.fault.Fault.TheVariants.{Cart, Memory, File, Output, Address, Word, Device, Script, Session, Line, Input, Snapshot, OtherState, Recording, Behind, Ahead, Differ, OtherRecording, RecordedGame, TestFailed, TestUndecided, NoBattery, BatteryLength}
 use Rattle.commands.specs.Text.{Text, IsUnread, IsUnwritten}
 use Rattle.gbkeep.specs.Request.{GivesInputs, HasAddress, HasDevice, HasScript, IsCompared, IsGameRefused, IsRecordingRefused, IsTestDecided, IsWithoutBattery, IsOtherLength}
 use Rattle.gbkeep.specs.Program.{Exchange, HasEnded, HasLine, IsDebugRefused, IsRecordRefused, IsRefused, IsRefusedReading, IsStreamRefused, IsTrueOf, line_of, status_of}
@@ -70,6 +70,7 @@ unread_by request (Session fault) run unread is why told = refused_by request (S
 unread_by request (Line number) run unread is why told = absurd is
 unread_by request Input run unread is why told = absurd is
 unread_by request Snapshot run unread is why told = absurd is
+unread_by request OtherState run unread is why told = absurd is
 unread_by request (Recording fault) run unread is why told = refused_by request (Recording fault) run refl (elsewhere (λ r. IsRecordingRefused r fault run.output.before run.output.since) (λ cart address count no. no) request is) why told
 unread_by request (Behind count) run unread is why told = refused_by request (Behind count) run refl (elsewhere (λ r. IsCompared r (RecordingBehind count) run.output.before run.output.since) (λ cart address count no. no) request is) why told
 unread_by request (Ahead count) run unread is why told = absurd is
@@ -94,6 +95,7 @@ stream_status (Session fault) input output is = refl
 stream_status (Line number) input output is = refl
 stream_status Input input output is = refl
 stream_status Snapshot input output is = refl
+stream_status OtherState input output is = refl
 stream_status (Recording fault) input output is = absurd is
 stream_status (Behind count) input output is = absurd is
 stream_status (Ahead count) input output is = absurd is
@@ -118,6 +120,7 @@ record_status (Session fault) input output is = refl
 record_status (Line number) input output is = refl
 record_status Input input output is = refl
 record_status Snapshot input output is = absurd is
+record_status OtherState input output is = absurd is
 record_status (Recording fault) input output is = refl
 record_status (Behind count) input output is = refl
 record_status (Ahead count) input output is = refl
@@ -142,6 +145,7 @@ debug_status save (Session fault) input output is = refl
 debug_status save (Line number) input output is = absurd is
 debug_status save Input input output is = refl
 debug_status save Snapshot input output is = absurd is
+debug_status save OtherState input output is = absurd is
 debug_status save (Recording fault) input output is = absurd is
 debug_status save (Behind count) input output is = absurd is
 debug_status save (Ahead count) input output is = absurd is

@@ -16,7 +16,7 @@ use Rattle.recorded_play.specs.declared.error.RecordError.TheVariants.{Session, 
 use Rattle.playing.proofs.Telling.{keeps_same}
 use Rattle.recording_marks.specs.declared.text.Mark.{Mark}
 use Rattle.gbkeep.specs.declared.fault.Fault.{Fault}
-use Rattle.gbkeep.specs.declared.fault.Fault.TheVariants.{Cart as ACart, Memory as AMemory, File as AFile, Output as AnOutput, Address as AnAddress, Word as AWord, Device as ADevice, Script as AScript, Session as ASession, Line as ALine, Input as AnInput, Snapshot as ASnapshot, Recording as ARecording, Behind as ABehind, Ahead as AnAhead, Differ as ADiffer, OtherRecording as AnOtherRecording, RecordedGame as ARecordedGame, TestFailed as ATestFailed, TestUndecided as ATestUndecided, NoBattery as NoBatteryThere, BatteryLength as ABatteryLength}
+use Rattle.gbkeep.specs.declared.fault.Fault.TheVariants.{Cart as ACart, Memory as AMemory, File as AFile, Output as AnOutput, Address as AnAddress, Word as AWord, Device as ADevice, Script as AScript, Session as ASession, Line as ALine, Input as AnInput, Snapshot as ASnapshot, OtherState as AnOtherState, Recording as ARecording, Behind as ABehind, Ahead as AnAhead, Differ as ADiffer, OtherRecording as AnOtherRecording, RecordedGame as ARecordedGame, TestFailed as ATestFailed, TestUndecided as ATestUndecided, NoBattery as NoBatteryThere, BatteryLength as ABatteryLength}
 use Rattle.gbkeep.specs.Program.{IsNotMarked, IsNotOf, IsRecordRefused, fault_of_command}
 use Rattle.gbkeep.specs.Request.{IsNotBelonging, IsRecordedTo, record_limits}
 
@@ -65,6 +65,7 @@ not_marked said tape input output (AScript why) cause = absurd cause
 not_marked said tape input output (ALine number) cause = absurd cause
 not_marked said tape input output AnInput cause = absurd cause
 not_marked said tape input output ASnapshot cause = absurd cause
+not_marked said tape input output AnOtherState cause = absurd cause
 not_marked said tape input output ARecordedGame cause = absurd cause
 not_marked said tape input output ATestFailed cause = absurd cause
 not_marked said tape input output ATestUndecided cause = absurd cause
@@ -110,6 +111,7 @@ module _ (rom : List ℕ) (accepted : IsAccepted rom) (game tape : FileDevice) (
   not_belonging (ALine number) cause = absurd cause
   not_belonging AnInput cause = absurd cause
   not_belonging ASnapshot cause = absurd cause
+  not_belonging AnOtherState cause = absurd cause
   not_belonging AnOtherRecording cause = absurd cause
   not_belonging ARecordedGame cause = absurd cause
   not_belonging ATestFailed cause = absurd cause

@@ -4,7 +4,7 @@ use Rattle.cartridge.specs.Accepted.{IsAccepted}
 use Rattle.sector_device.specs.FileDevice.{file_disk}
 use Rattle.sector_device.specs.declared.file.FileDevice.{FileDevice}
 use Rattle.streaming.specs.Streamed.{HasStreamed}
-use Rattle.streaming.specs.declared.error.StreamError.TheVariants.{Session, Line, Input, Snapshot, Memory}
+use Rattle.streaming.specs.declared.error.StreamError.TheVariants.{Session, Line, Input, Snapshot, OtherCartridge, Memory}
 use Rattle.commands.specs.declared.error.CommandError.{CommandError}
 use Rattle.commands.specs.declared.error.CommandError.TheVariants.{Cart, Script, Session as NoGame, Stream, Recording, Verify, Debug, Memory as NoMemory, Output}
 use Rattle.streaming.specs.declared.obeying.End.{End}
@@ -26,6 +26,7 @@ module _ (rom : List ℕ) (file left : FileDevice) (before_in since_in old new :
   stream_refused (Stream (Line number)) cause = streamed_to _ cause.0 cause.1
   stream_refused (Stream Input) cause = streamed_to _ cause.0 cause.1
   stream_refused (Stream Snapshot) cause = streamed_to _ cause.0 cause.1
+  stream_refused (Stream OtherCartridge) cause = streamed_to _ cause.0 cause.1
   stream_refused (Stream Memory) cause = inr (streamed_to _ cause.0 cause.1)
   stream_refused (Script fault) cause = absurd cause
   stream_refused (NoGame fault) cause = absurd cause

@@ -29,9 +29,9 @@ use Rattle.debugging.specs.declared.error.DebugError.TheVariants.{Input as Debug
 use Rattle.sector_device.specs.DiskState.{DiskState}
 use Rattle.replaying.specs.Verifying.{IsVerifyCause}
 use Rattle.replaying.specs.declared.error.VerifyError.TheVariants.{Save as NoSave, Recording as NoRecording, Behind as RecordingBehind, Ahead as RecordingAhead, Memory as NoMemory, Differ as MachinesDiffer}
-use Rattle.streaming.specs.declared.obeying.End.TheVariants.{Whole, Wrong as WrongLine, Failed as FailedRead, Damaged as DamagedBytes, NoMemory as LackedMemory}
-use Rattle.streaming.specs.declared.error.StreamError.TheVariants.{Session as StreamSession, Line as StreamLine, Input as StreamInput, Snapshot as StreamSnapshot, Memory as StreamMemory}
-use Rattle.gbkeep.specs.declared.fault.Fault.TheVariants.{Cart, Memory, File, Output, Address, Word, Device, Script, Session, Line, Input, Snapshot, Recording, Behind, Ahead, Differ, OtherRecording, RecordedGame, TestFailed, TestUndecided, NoBattery, BatteryLength}
+use Rattle.streaming.specs.declared.obeying.End.TheVariants.{Whole, Wrong as WrongLine, Failed as FailedRead, Damaged as DamagedBytes, OtherCartridge as BytesOfAnother, NoMemory as LackedMemory}
+use Rattle.streaming.specs.declared.error.StreamError.TheVariants.{Session as StreamSession, Line as StreamLine, Input as StreamInput, Snapshot as StreamSnapshot, OtherCartridge as StreamOtherCartridge, Memory as StreamMemory}
+use Rattle.gbkeep.specs.declared.fault.Fault.TheVariants.{Cart, Memory, File, Output, Address, Word, Device, Script, Session, Line, Input, Snapshot, OtherState, Recording, Behind, Ahead, Differ, OtherRecording, RecordedGame, TestFailed, TestUndecided, NoBattery, BatteryLength}
 use Rattle.script.specs.Script.{IsRefused as IsScriptRefused}
 use Rattle.input_entries.specs.Inputs.{inputs}
 use Rattle.input_entries.specs.declared.Entry.{Entry}
@@ -56,6 +56,7 @@ status_of (Session fault) = 1
 status_of (Line number) = 1
 status_of Input = 1
 status_of Snapshot = 1
+status_of OtherState = 1
 status_of (Recording fault) = 1
 status_of (Behind count) = 1
 status_of (Ahead count) = 1
@@ -76,6 +77,7 @@ fault_of_command (StreamEnded (StreamSession fault)) = Session fault
 fault_of_command (StreamEnded (StreamLine number)) = Line number
 fault_of_command (StreamEnded StreamInput) = Input
 fault_of_command (StreamEnded StreamSnapshot) = Snapshot
+fault_of_command (StreamEnded StreamOtherCartridge) = OtherState
 fault_of_command (StreamEnded StreamMemory) = Memory
 fault_of_command (NoTape fault) = Recording fault
 fault_of_command (NotVerified (NoSave fault)) = Session fault
@@ -170,6 +172,7 @@ line_of (Session (GameDamaged damage)) = None
 line_of (Line number) = None
 line_of Input = Some (codes "gbkeep: input failed\n")
 line_of Snapshot = Some (codes "gbkeep: damaged snapshot\n")
+line_of OtherState = Some (codes "gbkeep: other cartridge\n")
 line_of (Recording TapeMemory) = Some (codes "gbkeep: no memory\n")
 line_of (Recording TapeDevice) = Some (codes "gbkeep: device failed\n")
 line_of (Recording TapeTooSmall) = Some (codes "gbkeep: too small, 2 sectors needed\n")
@@ -260,6 +263,7 @@ IsStreamRefused (Session why) input output = IsStreamStopped why input output
 IsStreamRefused (Line number) input output = IsStreamedTo (WrongLine number) input output
 IsStreamRefused Input input output = IsStreamedTo FailedRead input output
 IsStreamRefused Snapshot input output = IsStreamedTo DamagedBytes input output
+IsStreamRefused OtherState input output = IsStreamedTo BytesOfAnother input output
 IsStreamRefused RecordedGame input output = IsUnread input × IsUnwritten output
 IsStreamRefused fault input output = ⊥
 

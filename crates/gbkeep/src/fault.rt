@@ -40,8 +40,10 @@ pub(crate) enum Fault {
     Line(u64),
     /// The input can't be read.
     Input,
-    /// The bytes of a state are no snapshot of the cartridge.
+    /// The bytes behind a line are no state.
     Snapshot,
+    /// The bytes behind a line are a state of another cartridge.
+    OtherState,
     /// A recording is not begun, read or appended to.
     Recording(RecordingFault),
     /// The recording has fewer inputs than the game: so many.
@@ -92,6 +94,7 @@ impl From<CommandError> for Fault {
             CommandError::Stream(StreamError::Line(number)) => Fault::Line(number),
             CommandError::Stream(StreamError::Input) => Fault::Input,
             CommandError::Stream(StreamError::Snapshot) => Fault::Snapshot,
+            CommandError::Stream(StreamError::OtherCartridge) => Fault::OtherState,
             CommandError::Stream(StreamError::Memory) => Fault::Memory,
             CommandError::Recording(why) => Fault::Recording(why),
             CommandError::Verify(VerifyError::Save(why)) => Fault::Session(why),
@@ -143,6 +146,7 @@ pub(crate) fn report<E: Output>(fault: Fault, err: &mut E) -> u8
         Fault::Differ => write_line("gbkeep: machines differ\n", err),
         Fault::OtherRecording => write_line("gbkeep: other recording\n", err),
         Fault::Snapshot => write_line("gbkeep: damaged snapshot\n", err),
+        Fault::OtherState => write_line("gbkeep: other cartridge\n", err),
         Fault::RecordedGame => write_line("gbkeep: recorded game: play it by record\n", err),
         Fault::TestFailed => write_line("gbkeep: test failed\n", err),
         Fault::TestUndecided => write_line("gbkeep: test undecided\n", err),

@@ -2,3 +2,4 @@ pub mod Words
 pub mod Texts
 pub mod KeptStates
 pub mod Slots
+pub mod Taking

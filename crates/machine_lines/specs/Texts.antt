@@ -26,6 +26,6 @@ abbrev pub memory_text : MachineState → ℕ → ℕ → List ℕ
 memory_text m address n =
     full_lines m address (n / 16) ++ (if n % 16 == 0 then [] else memory_line m ((address + n / 16 * 16) % 65536) (n % 16))
 
--- how many bytes a snapshot has, and its bytes
+-- how many bytes a state has, and its bytes
 abbrev pub state_text : List ℕ → List ℕ
 state_text bytes = count_line (codes "state") (length bytes) ++ bytes

@@ -23,7 +23,7 @@ use Rattle.machine_lines.specs.KeptStates.{KeptMachine}
 use Rattle.streaming.specs.Orders.{Deed, asked, order_of, needs_states}
 use Rattle.streaming.specs.Reading.{Asks, AsksUpTo, ReadsTo}
 use Rattle.streaming.specs.declared.order.Order.{Order}
-use Rattle.streaming.specs.declared.obeying.End.TheVariants.{Damaged, NoMemory}
+use Rattle.streaming.specs.declared.obeying.End.TheVariants.{Damaged, OtherCartridge, NoMemory}
 use Rattle.streaming.proofs.OrderLines.{needs_are}
 use Rattle.streaming.specs.Answers.{inputs_of_deeds, stream_lines}
 use Rattle.playing.specs.Going.{all_of, IsPlayedAt}
@@ -239,6 +239,9 @@ none_needed line order is needs = true≢false (sym (needs_are false line order 
 
 pub none_damaged : {lines : List Given} {a b : Option (List ℕ)} (own : List ℕ) → ReadsTo false own [] Damaged lines a b → ⊥
 none_damaged own damaged = none_needed damaged.given.line _ damaged.is.1 refl
+
+pub none_of_another : {lines : List Given} {a b : Option (List ℕ)} (own : List ℕ) → ReadsTo false own [] OtherCartridge lines a b → ⊥
+none_of_another own other = none_needed other.given.line _ other.is.1 refl
 
 pub none_lacked : {lines : List Given} {a b : Option (List ℕ)} (kept : List KeptMachine) → ReadsTo false [] kept NoMemory lines a b → ⊥
 none_lacked kept lacked = elim lacked.is.1 [

@@ -102,6 +102,7 @@ pub fn record<D: SectorDevice, E: SectorDevice, R: LineInput, W: Output>(
         Ok(End::Wrong(number)) => Err(stopped(game, RecordError::Line(number))),
         Ok(End::Failed) => Err(stopped(game, RecordError::Input)),
         Ok(End::Damaged) => unreachable!(),
+        Ok(End::OtherCartridge) => unreachable!(),
         Ok(End::NoMemory) => unreachable!(),
         Err(why) => Err(stopped(game, why)),
     }

@@ -6,7 +6,7 @@ ghost use Rattle.input_entries.specs.Inputs.{inputs};
 ghost use Rattle.recording.specs.Calls.{faults_after};
 ghost use Rattle.recording.specs.Recorded.{entries};
 ghost use Rattle.recording.specs.Accessors.{device_of, is_broken, count_of};
-ghost use Rattle.recording_marks.specs.Digests.{digest_of, IsKnown, IsOther};
+ghost use Rattle.recording_marks.specs.Digests.{digest_of, mark_faults_after, IsKnown, IsMarkCause, IsOther, IsReadCause};
 
 use crate::hashing::hash_inputs;
 use recording::{Recording, RecordingFault, open_recording};
@@ -52,6 +52,7 @@ fn digest<D: SectorDevice>(
     ensures count { count_of recording.new ≡ count_of recording.old }
     ensures looked { (D.disk (device_of recording.old)).honest →
         HasLooked (D.disk (device_of recording.old)) (D.disk (device_of recording.new)) }
+    ensures cause { IfErr result (λ why. why ≡ RecordingFault.Device) }
     ensures answered { HasAnswered faults_after (D.disk (device_of recording.old)) (D.disk (device_of recording.new))
         result }
 {
@@ -75,6 +76,7 @@ fn is_known<D: SectorDevice>(
     ensures whole { IfOk result (λ _. is_broken recording.new ≡ false) }
     ensures looked { (D.disk (device_of recording.old)).honest →
         HasLooked (D.disk (device_of recording.old)) (D.disk (device_of recording.new)) }
+    ensures cause { IfErr result (λ why. why ≡ RecordingFault.Device) }
     ensures answered { HasAnswered faults_after (D.disk (device_of recording.old)) (D.disk (device_of recording.new))
         result }
 {
@@ -105,6 +107,9 @@ fn compared<D: SectorDevice>(
         IsOther known (inputs (entries (D.disk (device_of recording.old)).sectors))) }
     ensures looked { (D.disk (device_of recording.old)).honest →
         HasLooked (D.disk (device_of recording.old)) (D.disk (device_of recording.new)) }
+    ensures cause { IfErr result (λ why. IsReadCause why) }
+    ensures answered { HasAnswered mark_faults_after (D.disk (device_of recording.old))
+        (D.disk (device_of recording.new)) result }
 {
     if let Some(known) = known {
         match is_known(recording, &known) {
@@ -138,7 +143,9 @@ pub fn known_of<D: SectorDevice>(
         IfSome known (λ known. IsKnown known (inputs (entries (D.disk device).sectors)))) }
     ensures other { IfErr result.answer (λ why. why ≡ MarkFault.Other → (D.disk device).honest →
         IsOther known (inputs (entries (D.disk device).sectors))) }
+    ensures cause { IfErr result.answer (λ why. IsMarkCause why id (D.disk device)) }
     ensures looked { (D.disk device).honest → HasLooked (D.disk device) (D.disk result.device) }
+    ensures answered { HasAnswered mark_faults_after (D.disk device) (D.disk result.device) result.answer }
 {
     match open_recording(alloc, device, id) {
         Ok(recording) => {

@@ -1,6 +1,6 @@
 -- Which bytes are a state, by their header and what stands behind it.
-use Rattle.std.proofs.Common.{◌≡◌, ◌≢◌, ◌≤◌, ◌<◌, ◌+◌, ℕ, List, ◌++◌, length, take, drop, refl, sym, ap, ◌∙◌, subst, arith, length-append}
-use Rattle.std.proofs.lemmas.List.{take-append-le, take-append-drop, length-take-le, length-drop}
+use Rattle.std.proofs.Common.{◌≡◌, ◌<◌, ◌+◌, ℕ, List, ◌++◌, length, take, drop, refl, sym, ap, ◌∙◌, subst, arith, length-append}
+use Rattle.std.proofs.lemmas.List.{take-append-le, take-append-drop}
 use Rattle.std.proofs.Math.Seq.{take-append_seam, drop-append_seam}
 use Rattle.sha2.specs.Sha256.{sha256}
 use Rattle.sha2.proofs.Facts256.{length-sha256}
@@ -40,9 +40,6 @@ module _ (header rest : List ℕ) (long : length header ≡ 40) where
       other = λ e. named.1 (sym header_is ∙ e);
     }
 
-    pub other_illegal : IsNamed Other rom header → IsLegalState rom (header ++ rest) → ⊥
-    other_illegal named legal = named.1 (sym header_is ∙ legal.header)
-
     pub nothing_illegal : IsNamed Nothing rom header → IsLegalState rom (header ++ rest) → ⊥
     nothing_illegal named legal = named (ap (take 8) (sym header_is ∙ legal.header) ∙ header_marked rom)
 
@@ -63,6 +60,10 @@ module _ (rom snapshot : List ℕ) where
 
   pub own_named : IsOfAnotherRom rom (header_of rom ++ snapshot) → ⊥
   own_named other = other.other (header_is (header_of rom) snapshot (header_long rom))
+
+-- a state of another ROM is none of this one
+pub another_illegal : (rom bytes : List ℕ) → IsOfAnotherRom rom bytes → IsLegalState rom bytes → ⊥
+another_illegal rom bytes other legal = other.other legal.header
 
 -- ---- by their length
 

@@ -22,9 +22,9 @@ use Rattle.streaming.specs.Obeying.{AdvancesByDeeds, AdvancesByLines, StopsByLin
 use Rattle.streaming.specs.Steps.{IsObeyed, IsRefused, IsStep}
 use Rattle.streaming.specs.declared.order.Order.{Order}
 use Rattle.streaming.specs.declared.next_order.Next.TheVariants.{Line, Wrong}
-use Rattle.streaming.specs.declared.obeying.Went.TheVariants.{Wrong as WentWrong, Damaged as WentDamaged, NoMemory as WentNoMemory, Failed as WentFailed}
+use Rattle.streaming.specs.declared.obeying.Went.TheVariants.{Wrong as WentWrong, Damaged as WentDamaged, OtherCartridge as WentOther, NoMemory as WentNoMemory, Failed as WentFailed}
 use Rattle.streaming.specs.declared.obeying.End.{End as Ending}
-use Rattle.streaming.specs.declared.obeying.End.TheVariants.{Whole, Wrong as WrongLine, Failed as FailedRead, Damaged, NoMemory}
+use Rattle.streaming.specs.declared.obeying.End.TheVariants.{Whole, Wrong as WrongLine, Failed as FailedRead, Damaged, OtherCartridge, NoMemory}
 use Rattle.streaming.proofs.Compositions.{obeys_then, stops_then}
 use Rattle.streaming.proofs.LinesRead.{asked_is, deed_asks, empty_asks}
 
@@ -199,19 +199,25 @@ module _ {G F : Type 0} {game : Ghosts G F} {rom : List ℕ} {start : G} {of : g
     pub was_damaged : {after_it : G} {z known : Option (List ℕ)} (items : List ℕ) → IsStep game now after_it y z (record { before = mid; since = left_of items known; unread = known }) rom so_far.kept order [] WentDamaged
         → AdvancesByLines game start after_it before_in known x z Damaged
     was_damaged {known = known} items (still, (n, restores, bad)) =
-        let given = with_bytes bad.bytes in
         ends still.same still.quiet
-        (elim bad.bad [
-          | inl (all, illegal, took_all) ↦
-              record { given = given; is = (n, asked_here (sym restores), inr illegal); more = items; read = read_so bad.bytes items known (all ∙ sym (asks_so (sym restores))) took_all }
-          | inr (few, took_few, is_end) ↦
+        (elim bad [
+          | inl all ↦
+              record { given = with_bytes all.bytes; is = (n, asked_here (sym restores), inr all.are); more = items; read = read_so all.bytes items known (all.long ∙ sym (asks_so (sym restores))) all.took }
+          | inr (short, is_end) ↦
               record {
-                given = given;
-                is = (n, asked_here (sym restores), inl (λ e. absurd (omega (arith, e, few))));
+                given = with_bytes short.bytes;
+                is = (n, asked_here (sym restores), inl (λ e. absurd (omega (arith, e, short.few))));
                 more = [];
-                read = given_last asks_for lines given before_in there known so_far.taken (ends_within asks_for next.line bad.bytes there mid known next.one_line (omega (arith, asks_so (sym restores), few)) next.takes took_few is_end);
+                read = given_last asks_for lines (with_bytes short.bytes) before_in there known so_far.taken
+                    (ends_within asks_for next.line short.bytes there mid known next.one_line (omega (arith, asks_so (sym restores), short.few)) next.takes short.took is_end);
               }
         ])
+
+    pub was_of_another : {after_it : G} {z known : Option (List ℕ)} (items : List ℕ) → IsStep game now after_it y z (record { before = mid; since = left_of items known; unread = known }) rom so_far.kept order [] WentOther
+        → AdvancesByLines game start after_it before_in known x z OtherCartridge
+    was_of_another {known = known} items (still, (n, restores, all)) =
+        ends still.same still.quiet
+        (record { given = with_bytes all.bytes; is = (n, asked_here (sym restores), all.long, all.are); more = items; read = read_so all.bytes items known (all.long ∙ sym (asks_so (sym restores))) all.took })
 
     pub bytes_failed : {after_it : G} {z known : Option (List ℕ)} (items : List ℕ) → IsStep game now after_it y z (record { before = mid; since = left_of items known; unread = known }) rom so_far.kept order [] WentFailed
         → AdvancesByLines game start after_it before_in known x z FailedRead

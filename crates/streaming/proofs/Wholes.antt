@@ -29,7 +29,7 @@ use Rattle.streaming.specs.Answers.{inputs_of_deeds, unsaved_behind_deeds, lines
 use Rattle.streaming.specs.Obeying.{stream_from, AdvancesByDeeds, StopsByDeeds}
 use Rattle.streaming.specs.Streamed.{HasStreamed, HasStreamedAll, HasStopped}
 use Rattle.streaming.specs.declared.obeying.End.{End}
-use Rattle.streaming.specs.declared.obeying.End.TheVariants.{Whole, Wrong, Failed, Damaged, NoMemory}
+use Rattle.streaming.specs.declared.obeying.End.TheVariants.{Whole, Wrong, Failed, Damaged, OtherCartridge, NoMemory}
 use Rattle.streaming.proofs.Compositions.{inputs_append, obeys_then, stops_then}
 use Rattle.streaming.proofs.LinesRead.{read_before}
 
@@ -70,6 +70,7 @@ reads_some states rom kept (Wrong number) lines a b (is, inr (inl long)) = (long
 reads_some states rom kept (Wrong number) lines a b (is, inr (inr last)) = (last.1.0, last.1.1)
 reads_some states rom kept Failed lines a b failed = (failed.0, failed.2)
 reads_some states rom kept Damaged lines a b damaged = read_before states lines damaged.given damaged.more a b damaged.read
+reads_some states rom kept OtherCartridge lines a b other = read_before states lines other.given other.more a b other.read
 reads_some states rom kept NoMemory lines a b lacked = read_before states lines lacked.given lacked.more a b lacked.read
 
 -- ---- from the resume

@@ -3,7 +3,7 @@ use Rattle.std.specs.Prelude.{◌==◌, ◌+◌, ℕ, List, [], ◌∷◌, ◌++
 use Rattle.machine.specs.Machine.{MachineState, after, picture_rows}
 use Rattle.machine.specs.Machine.{Input, State as StateInput}
 use Rattle.picture_unit.specs.Pgm.{picture_text}
-use Rattle.snapshot.specs.Encoding.{encoded}
+use Rattle.state_header.specs.States.{state_of}
 use Rattle.script.specs.declared.moves.Move.TheVariants.{Save}
 use Rattle.session.specs.Stands.{Position}
 use Rattle.playing.specs.Report.{line_due, unsaved_after, unsaved_behind_move, lines_of_move}
@@ -55,7 +55,7 @@ picture_line machine = answer (picture_text (picture_rows machine))
 abbrev pub lines_of_order : MachineState → (count unsaved : ℕ) → Order → List Line
 lines_of_order machine count unsaved (Make move) = lines_of_move count unsaved move
 lines_of_order machine count unsaved Picture = picture_line machine ∷ []
-lines_of_order machine count unsaved State = answer (state_text (encoded machine)) ∷ []
+lines_of_order machine count unsaved State = answer (state_text (state_of machine)) ∷ []
 lines_of_order machine count unsaved (Memory address n) = answer (memory_text machine address n) ∷ []
 lines_of_order machine count unsaved (Keep k) = answer (count_line (codes "kept") k) ∷ []
 lines_of_order machine count unsaved order = []

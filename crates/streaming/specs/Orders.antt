@@ -3,8 +3,8 @@ use Rattle.std.specs.Prelude.{◌≡◌, ◌⊎◌, ◌<◌, ℕ, Bool, true, fa
 use Rattle.std.specs.Option.{option_map}
 use Rattle.std.specs.Str.{bytes_eq}
 use Rattle.machine.specs.Machine.{MachineState}
-use Rattle.snapshot.specs.Legal.{IsLegalSnapshot}
 use Rattle.snapshot.specs.Reading.{machine_in}
+use Rattle.state_header.specs.States.{snapshot_in, IsLegalState}
 use Rattle.input_lines.specs.Newlines.{HasNoNewline}
 use Rattle.input_lines.specs.Given.{Given}
 use Rattle.script.specs.declared.moves.Move.{Move}
@@ -108,10 +108,10 @@ IsOwn (Restore n) = ⊥
 IsOwn order = ⊤
 
 -- with these machines kept, and these bytes behind the line: the machine is the one that was kept last under the number, or the one of the
--- bytes, which are a legal snapshot of the cartridge
+-- bytes, which are a state of the cartridge
 abbrev pub IsOther : (rom : List ℕ) → List KeptMachine → (bytes : List ℕ) → Order → MachineState → Type 0
 IsOther rom kept bytes (Back k) machine = (bytes ≡ []) × (kept_under k kept ≡ Some machine)
-IsOther rom kept bytes (Restore n) machine = (length bytes ≡ n) × IsLegalSnapshot rom bytes × (machine ≡ machine_in rom bytes)
+IsOther rom kept bytes (Restore n) machine = (length bytes ≡ n) × IsLegalState rom bytes × (machine ≡ machine_in rom (snapshot_in bytes))
 IsOther rom kept bytes order machine = ⊥
 
 abbrev pub IsDoneBy : (rom : List ℕ) → List KeptMachine → (bytes : List ℕ) → Deed → Type 0

@@ -18,13 +18,13 @@ use Rattle.streaming.specs.Orders.{Deed, asked}
 use Rattle.streaming.specs.Reading.{Asks, AsksUpTo, ReadsTo}
 use Rattle.streaming.specs.Answers.{inputs_of_deeds, stream_lines}
 use Rattle.streaming.specs.declared.obeying.End.{End}
-use Rattle.streaming.specs.declared.obeying.End.TheVariants.{Whole, Wrong, Failed, Damaged, NoMemory}
+use Rattle.streaming.specs.declared.obeying.End.TheVariants.{Whole, Wrong, Failed, Damaged, OtherCartridge, NoMemory}
 use Rattle.sector_device.specs.declared.device.SectorDevice.{Ghosts}
 use Rattle.session.specs.Accessors.{device_of}
 use Rattle.session.specs.declared.session.Session.{Session as PlaySession}
 use Rattle.streaming.specs.declared.error.StreamError.{StreamError}
 use Rattle.sector_device.specs.declared.refused.Refused.{Refused}
-use Rattle.streaming.specs.declared.error.StreamError.TheVariants.{Session as NotObeyed, Line as WrongLine, Input as FailedInput, Snapshot as DamagedSnapshot, Memory as LacksMemory}
+use Rattle.streaming.specs.declared.error.StreamError.TheVariants.{Session as NotObeyed, Line as WrongLine, Input as FailedInput, Snapshot as DamagedSnapshot, OtherCartridge as NamesAnother, Memory as LacksMemory}
 
 -- The lines that were read up to this end, and all that they ask for: it was done, answered and saved, from a position that is one of
 -- this ROM, and the one that reads of an honest device gave. Each image at each moment stands for what one stood for before, or for some of these inputs.
@@ -65,13 +65,14 @@ pub record HasStopped (rom : List ℕ) (old now : DiskState) (why : SessionError
   pub left : old.honest → (image : List (List ℕ)) → now.image image → Reaches rom from least (inputs_of_deeds deeds) image
 
 -- Why a stream is refused: it was not taken up, with nothing read and nothing written; or a line was refused; or it went up to a wrong
--- line, a read that failed, bytes that are no snapshot, or a line for which there is no memory.
+-- line, a read that failed, bytes that are no state or one of another cartridge, or a line for which there is no memory.
 abbrev pub IsStreamCause : StreamError → (rom : List ℕ) → (old now : DiskState) → (before_in since_in before since : Option (List ℕ)) → Type 0
 IsStreamCause (NotObeyed why) rom old now before_in since_in before since =
     (IsNotTakenUp rom old now why before since × (since_in ≡ before_in)) ⊎ HasStopped rom old now why before_in since_in before since
 IsStreamCause (WrongLine number) rom old now before_in since_in before since = HasStreamed rom old now (Wrong number) before_in since_in before since
 IsStreamCause FailedInput rom old now before_in since_in before since = HasStreamed rom old now Failed before_in since_in before since
 IsStreamCause DamagedSnapshot rom old now before_in since_in before since = HasStreamed rom old now Damaged before_in since_in before since
+IsStreamCause NamesAnother rom old now before_in since_in before since = HasStreamed rom old now OtherCartridge before_in since_in before since
 IsStreamCause LacksMemory rom old now before_in since_in before since = HasStreamed rom old now NoMemory before_in since_in before since
 
 -- the device's count of failed calls: one more after `Device`, and after no other refusal
@@ -80,6 +81,7 @@ faults_after_stream (NotObeyed why) faults = faults_after why faults
 faults_after_stream (WrongLine number) faults = faults
 faults_after_stream FailedInput faults = faults
 faults_after_stream DamagedSnapshot faults = faults
+faults_after_stream NamesAnother faults = faults
 faults_after_stream LacksMemory faults = faults
 
 -- the device that a stream leaves

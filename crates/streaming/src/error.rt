@@ -15,9 +15,12 @@ pub enum StreamError {
     /// A read of the input failed.
     #[error("input failed")]
     Input,
-    /// The bytes behind a line are no snapshot of the cartridge.
+    /// The bytes behind a line are no state.
     #[error("damaged snapshot")]
     Snapshot,
+    /// The bytes behind a line are a state of another cartridge.
+    #[error("other cartridge")]
+    OtherCartridge,
     /// There was no memory for a line.
     #[error("no memory")]
     Memory,

@@ -26,9 +26,9 @@ use crate::state_room::StateRoom;
 use arrayvec::ArrayVec;
 use cartridge::Cartridge;
 use exact_text::{Output, OutputFailed, write_whole};
-use input_lines::{LineInput, Taken, Unread, skip_bytes, take_bytes};
+use input_lines::{LineInput, Unread};
 use machine::Region;
-use machine_lines::{KeptStates, write_count, write_memory, write_state};
+use machine_lines::{KeptStates, TakenState, take_state, write_count, write_memory, write_state};
 use playing::{Playable, give_state, make_move, save_line, write_resumed};
 use script::Move;
 use snapshot::length;
@@ -43,8 +43,10 @@ pub enum End {
     Wrong(u64),
     /// At a read that failed.
     Failed,
-    /// At bytes that are no snapshot of the cartridge.
+    /// At bytes that are no state.
     Damaged,
+    /// At a state of another cartridge.
+    OtherCartridge,
     /// At a line for which there was no memory.
     NoMemory,
 }
@@ -58,8 +60,10 @@ pub(crate) enum Went {
     Wrong,
     /// A read of its bytes failed.
     Failed,
-    /// Its bytes are no snapshot of the cartridge, or fewer to the end of the input.
+    /// Its bytes are no state, or fewer to the end of the input.
     Damaged,
+    /// Its bytes are a state of another cartridge.
+    OtherCartridge,
     /// There was no memory for it.
     NoMemory,
 }
@@ -118,13 +122,15 @@ fn obey_picture<G: Playable, W: Output>(game: &mut G, out: &mut W) -> Result<(),
     }
 }
 
-/// Writes the machine's snapshot, for which there is room.
+/// Writes the machine's state. There is room for its snapshot.
 fn obey_state<G: Playable, W: Output>(
     game: &mut G,
+    cartridge: &Cartridge,
     snapshot: &mut [u8],
     out: &mut W,
 ) -> Result<(), G::Fault>
-    requires { length snapshot.old ≡ snapshot_length (ram_length_of (G.rom game.old)) }
+    requires of { G.rom game.old ≡ cartridge.now }
+    requires room { length snapshot.old ≡ snapshot_length (ram_length_of (G.rom game.old)) }
     ensures obeyed { OnOk result
         (AdvancesByDeeds ⟦<G as Playable>⟧ game.old game.new (W.contents out.old) (W.contents out.new) (Does Order.State ∷ [])) }
     ensures stopped { IfErr result (λ why.
@@ -134,7 +140,7 @@ fn obey_state<G: Playable, W: Output>(
     ensures room { length snapshot.new ≡ length snapshot.old }
 {
     game.draw_late();
-    match write_state(game.machine(), snapshot, out) {
+    match write_state(game.machine(), cartridge, snapshot, out) {
         Ok(()) => Ok(()),
         Err(_) => Err(G::unwritten()),
     }
@@ -282,7 +288,7 @@ fn obey_back<G: Playable, W: Output>(
     }
 }
 
-/// Takes the bytes of a snapshot, and goes on with its machine.
+/// Takes the bytes of a state, and goes on with its machine.
 fn obey_restore<G: Playable, R: LineInput, W: Output>(
     game: &mut G,
     unread: &mut Unread,
@@ -318,20 +324,15 @@ fn obey_restore<G: Playable, R: LineInput, W: Output>(
     ensures whole { OnOk result (G.whole game.new × (G.unsaved game.new < most_unsaved)) }
     ensures room { length snapshot.new ≡ length snapshot.old }
 {
-    if size as usize != snapshot.len() {
-        return match skip_bytes(unread, input, size as usize) {
-            Taken::All | Taken::End => Ok(Went::Damaged),
-            Taken::Failed => Ok(Went::Failed),
-        };
-    }
-    match take_bytes(unread, input, snapshot) {
-        Taken::All => match go_on_with(game, snapshot, cartridge, Order::Restore(size), out) {
+    match take_state(unread, input, size as usize, snapshot, cartridge) {
+        TakenState::Snapshot => match go_on_with(game, snapshot, cartridge, Order::Restore(size), out) {
             Ok(true) => Ok(Went::On),
             Ok(false) => Ok(Went::Damaged),
             Err(why) => Err(why),
         },
-        Taken::End => Ok(Went::Damaged),
-        Taken::Failed => Ok(Went::Failed),
+        TakenState::Other => Ok(Went::OtherCartridge),
+        TakenState::Nothing | TakenState::End => Ok(Went::Damaged),
+        TakenState::Failed => Ok(Went::Failed),
     }
 }
 
@@ -382,7 +383,7 @@ fn obey<G: Playable, R: LineInput, W: Output>(
             Ok(()) => Ok(Went::On),
             Err(why) => Err(why),
         },
-        Order::State => match obey_state(game, &mut room.snapshot, out) {
+        Order::State => match obey_state(game, cartridge, &mut room.snapshot, out) {
             Ok(()) => Ok(Went::On),
             Err(why) => Err(why),
         },
@@ -441,6 +442,7 @@ fn obey_lines<G: Playable, R: LineInput, W: Output>(
                     Ok(Went::Wrong) => return Ok(End::Wrong(number)),
                     Ok(Went::Failed) => return Ok(End::Failed),
                     Ok(Went::Damaged) => return Ok(End::Damaged),
+                    Ok(Went::OtherCartridge) => return Ok(End::OtherCartridge),
                     Ok(Went::NoMemory) => return Ok(End::NoMemory),
                     Err(why) => return Err(why),
                 }

@@ -23,10 +23,10 @@ use std::alloc::Global;
 /// | Line | What is done | Answer |
 /// |---|---|---|
 /// | `picture` | nothing | the machine's picture as plain PGM |
-/// | `state` | nothing | `state K`, and the K bytes of the machine's snapshot |
+/// | `state` | nothing | `state K`, and the K bytes of the machine's state |
 /// | `memory ADDR N` | nothing | the bytes, sixteen a line, as nothing closes them |
 /// | `power` | the power switch, off and on, one input | none |
-/// | `restore N`, and N bytes | the machine becomes the one of this snapshot, one input | `restored` |
+/// | `restore N`, and N bytes | the machine becomes the one of this state, one input | `restored` |
 /// | `keep K` | nothing; the machine is kept under K, 0 to 999, in place of one that was | `kept K` |
 /// | `back K` | the machine becomes the one that was kept last under K, one input. The line is wrong where none was | `back K` |
 ///
@@ -34,9 +34,9 @@ use std::alloc::Global;
 ///
 /// Refusals: `Memory` for the room for states, and those of `resume`, with nothing read and nothing written; then whichever comes
 /// first of `GenerationsUsedUp`, `Device`, `CountFull` and `Output`, as in `play`; `Line` with the number of the first
-/// wrong line, counted from 1, `Snapshot` where the bytes of `restore` are no snapshot of this cartridge, or fewer to the end of the
-/// input, `Memory` for a `power` or for the first `keep` of a number, and `Input` if a read fails, all once what was given before is
-/// saved and reported. A line of more than 64 bytes is wrong as soon as that many are read, and so
+/// wrong line, counted from 1, `Snapshot` where the bytes of `restore` are no state, or fewer to the end of the input, `OtherCartridge` where
+/// they are a state of another cartridge, `Memory` for a `power` or for the first `keep` of a number, and `Input` if a read fails, all once what
+/// was given before is saved and reported. A line of more than 64 bytes is wrong as soon as that many are read, and so
 /// is the line with the number `u64::MAX`, whatever it says.
 pub fn stream<D: SectorDevice, R: LineInput, W: Output>(
     alloc: Global,
@@ -88,6 +88,10 @@ pub fn stream<D: SectorDevice, R: LineInput, W: Output>(
         }),
         Ok(End::Damaged) => Err(Refused {
             why: StreamError::Snapshot,
+            device: session.into_device(),
+        }),
+        Ok(End::OtherCartridge) => Err(Refused {
+            why: StreamError::OtherCartridge,
             device: session.into_device(),
         }),
         Ok(End::NoMemory) => Err(Refused {

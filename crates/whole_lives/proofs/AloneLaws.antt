@@ -21,9 +21,9 @@ use Rattle.streaming.specs.Reading.AsksUpTo.{all_asked}
 use Rattle.streaming.specs.Answers.{inputs_of_deeds, stream_lines}
 use Rattle.streaming.specs.Streamed.{HasStreamed, HasStreamedAll, HasStopped, IsStreamCause}
 use Rattle.streaming.specs.declared.error.StreamError.{StreamError}
-use Rattle.streaming.specs.declared.error.StreamError.TheVariants.{Session, Line as WrongLine, Input as FailedInput, Snapshot, Memory}
+use Rattle.streaming.specs.declared.error.StreamError.TheVariants.{Session, Line as WrongLine, Input as FailedInput, Snapshot, OtherCartridge as NamesAnother, Memory}
 use Rattle.streaming.specs.declared.obeying.End.{End}
-use Rattle.streaming.specs.declared.obeying.End.TheVariants.{Whole, Wrong, Failed, Damaged, NoMemory}
+use Rattle.streaming.specs.declared.obeying.End.TheVariants.{Whole, Wrong, Failed, Damaged, OtherCartridge, NoMemory}
 use Rattle.whole_lives.specs.Lives.{Files, Played, kept_of, taken_up_at}
 use Rattle.whole_lives.specs.Devices.{Memories, AreLeft, LeavesRound}
 use Rattle.whole_lives.specs.declared.error.LifeError.TheVariants.{Stream}
@@ -182,6 +182,7 @@ module _ (rom : List ℕ) (save now : MemoryState) (text : List ℕ) where
   refused_in (WrongLine number) unread report by = whole_part (WrongLine number) report (streamed_to (Wrong number) unread report by)
   refused_in FailedInput unread report by = whole_part FailedInput report (streamed_to Failed unread report by)
   refused_in Snapshot unread report by = whole_part Snapshot report (streamed_to Damaged unread report by)
+  refused_in NamesAnother unread report by = whole_part NamesAnother report (streamed_to OtherCartridge unread report by)
   refused_in Memory unread report by = whole_part Memory report (streamed_to NoMemory unread report by)
 
   pub whole_in : (unread report : List ℕ) → HasStreamed rom (memory_disk save) (memory_disk now) Whole (Some text) (Some unread) (Some []) (Some report) → Leaves report true

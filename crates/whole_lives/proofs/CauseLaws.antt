@@ -30,7 +30,7 @@ use Rattle.streaming.specs.Streamed.{faults_after_stream}
 use Rattle.streaming.specs.declared.error.StreamError.{StreamError}
 use Rattle.recorded_play.specs.Steps.{recording_faults_after, save_faults_after}
 use Rattle.recorded_play.specs.declared.error.RecordError.{RecordError}
-use Rattle.streaming.specs.declared.error.StreamError.TheVariants.{Session as OfStream, Line as WrongLine, Input as FailedInput, Snapshot as DamagedSnapshot, Memory as LacksMemory}
+use Rattle.streaming.specs.declared.error.StreamError.TheVariants.{Session as OfStream, Line as WrongLine, Input as FailedInput, Snapshot as DamagedSnapshot, OtherCartridge as NamesAnother, Memory as LacksMemory}
 use Rattle.recorded_play.specs.declared.error.RecordError.TheVariants.{Session as OfRecord, Recording, Behind, Line as WrongRecorded, Input as FailedRecorded}
 use Rattle.whole_lives.specs.Devices.{CountsRefusal, EachStands, IsSound, IsSoundStop, Memories}
 use Rattle.whole_lives.specs.Lines.{IsCause, RefuseLines}
@@ -113,6 +113,7 @@ module _ (rom : List ℕ) (save : MemoryState) (position : Position) (is : stand
   cause_sound (Stream (WrongLine n)) recording left left_recording text unread report cause = tt
   cause_sound (Stream FailedInput) recording left left_recording text unread report cause = tt
   cause_sound (Stream DamagedSnapshot) recording left left_recording text unread report cause = tt
+  cause_sound (Stream NamesAnother) recording left left_recording text unread report cause = tt
   cause_sound (Stream LacksMemory) recording left left_recording text unread report cause = tt
   cause_sound (Record (OfRecord why)) None left left_recording text unread report cause = absurd cause
   cause_sound (Record (OfRecord why)) (Some r) left None text unread report cause = absurd cause
@@ -147,6 +148,7 @@ module _ (save left : MemoryState) where
   stream_counted (WrongLine n) is = (is, refl)
   stream_counted FailedInput is = (is, refl)
   stream_counted DamagedSnapshot is = (is, refl)
+  stream_counted NamesAnother is = (is, refl)
   stream_counted LacksMemory is = (is, refl)
 
   module _ (recording left_recording : MemoryState) where

@@ -12,7 +12,7 @@ use Rattle.streaming.specs.Orders.{Deed, asked}
 use Rattle.streaming.specs.Reading.{ReadsTo}
 use Rattle.streaming.proofs.Wholes.{reads_some}
 use Rattle.streaming.specs.declared.obeying.End.{End}
-use Rattle.streaming.specs.declared.obeying.End.TheVariants.{Whole, Wrong, Failed, Damaged, NoMemory}
+use Rattle.streaming.specs.declared.obeying.End.TheVariants.{Whole, Wrong, Failed, Damaged, OtherCartridge, NoMemory}
 use Rattle.replaying.specs.Agreeing.{recorded_inputs}
 use Rattle.whole_lives.specs.Lines.{Begins}
 use Rattle.whole_lives.specs.Devices.{IsRecordedLeft}
@@ -41,6 +41,7 @@ is_whole Whole = true
 is_whole (Wrong number) = false
 is_whole Failed = false
 is_whole Damaged = false
+is_whole OtherCartridge = false
 is_whole NoMemory = false
 
 module _ (states : Bool) where
@@ -70,6 +71,7 @@ module _ (states : Bool) where
   read_to rom kept (Wrong number) lines text unread read = read_some rom kept (Wrong number) lines text unread read
   read_to rom kept Failed lines text unread read = read_some rom kept Failed lines text unread read
   read_to rom kept Damaged lines text unread read = read_some rom kept Damaged lines text unread read
+  read_to rom kept OtherCartridge lines text unread read = read_some rom kept OtherCartridge lines text unread read
   read_to rom kept NoMemory lines text unread read = read_some rom kept NoMemory lines text unread read
 
 -- ---- lines that are told

@@ -1,5 +1,5 @@
 use Rattle.gbkeep.proofs.fault.report.Goals as goal
-use Rattle.gbkeep.proofs.fault.report.Goals.{in-Cart, in-Memory, in-File, in-Output, in-Address, in-Word, in-Device, in-Script, in-Session, in-Line, in-Input, in-Snapshot, in-Recording, in-Behind, in-Ahead, in-Differ, in-OtherRecording, in-RecordedGame, in-TestFailed, in-TestUndecided, in-NoBattery, in-BatteryLength}
+use Rattle.gbkeep.proofs.fault.report.Goals.{in-Cart, in-Memory, in-File, in-Output, in-Address, in-Word, in-Device, in-Script, in-Session, in-Line, in-Input, in-Snapshot, in-OtherState, in-Recording, in-Behind, in-Ahead, in-Differ, in-OtherRecording, in-RecordedGame, in-TestFailed, in-TestUndecided, in-NoBattery, in-BatteryLength}
 
 pub returns-clause-line : goal.returns-clause-line
 returns-clause-line g c =
@@ -16,6 +16,7 @@ returns-clause-line g c =
       | in-Line w ↦ rw w.in-Line.is tt
       | in-Input w ↦ rw (w.in-Input.is, w.err-is) w.write_line-in-Input.ensures
       | in-Snapshot w ↦ rw (w.in-Snapshot.is, w.err-is) w.write_line-in-Snapshot.ensures
+      | in-OtherState w ↦ rw (w.in-OtherState.is, w.err-is) w.write_line-in-OtherState.ensures
       | in-Recording w ↦ rw (w.in-Recording.is, w.err-is) w.write_recording_line.ensures
       | in-Behind w ↦ rw w.in-Behind.is tt
       | in-Ahead w ↦ rw w.in-Ahead.is tt

@@ -8,7 +8,7 @@ use Rattle.playing.proofs.Telling.{keeps_same}
 use Rattle.streaming.specs.Answers.{inputs_of_deeds}
 use Rattle.recorded_play.specs.Steps.{BothAdvance, game, IsOfDevices, save_faults_after, recording_faults_after, told_as}
 use Rattle.recorded_play.proofs.Stepping.{comes_all, halts_all}
-use Rattle.recorded_play.proofs.WholePlays.{IsUp, none_damaged, none_lacked, recorded_to, rests_at, stopped_record, as_refusal, ended_agree, stopped_agree}
+use Rattle.recorded_play.proofs.WholePlays.{IsUp, none_damaged, none_of_another, none_lacked, recorded_to, rests_at, stopped_record, as_refusal, ended_agree, stopped_agree}
 use Rattle.recorded_play.proofs.recorded.record.Given.{Over}
 use Rattle.recorded_play.proofs.recorded.record.Goals as goal
 use Rattle.recorded_play.proofs.recorded.record.Goals.{In-Ok-take_up, In-Ok-Failed}
@@ -132,6 +132,9 @@ returns g c =
 
 pub unreachable-requires : goal.unreachable-requires
 unreachable-requires g c = none_damaged (rom_of c.in-Ok-take_up.game.session) (rw c.in-Ok-Damaged.field-0-is at c.in-Ok-Damaged.ensures.streamed.read)
+
+pub unreachable-requires-in-Ok-OtherCartridge : goal.unreachable-requires-in-Ok-OtherCartridge
+unreachable-requires-in-Ok-OtherCartridge g c = none_of_another (rom_of c.in-Ok-take_up.game.session) (rw c.in-Ok-OtherCartridge.field-0-is at c.in-Ok-OtherCartridge.ensures.streamed.read)
 
 pub unreachable-requires-in-Ok-NoMemory : goal.unreachable-requires-in-Ok-NoMemory
 unreachable-requires-in-Ok-NoMemory g c = none_lacked c.in-Ok-NoMemory.ensures.streamed.kept (rw c.in-Ok-NoMemory.field-0-is at c.in-Ok-NoMemory.ensures.streamed.read)

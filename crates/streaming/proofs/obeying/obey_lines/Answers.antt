@@ -4,7 +4,7 @@ use Rattle.machine_lines.proofs.SlotLaws.{none_kept}
 use Rattle.streaming.specs.Obeying.{AdvancesByLines}
 use Rattle.streaming.specs.declared.obeying.End.TheVariants.{Wrong as WrongLine}
 use Rattle.streaming.proofs.OrderLines.{needs_are}
-use Rattle.streaming.proofs.Lines.{IsOrdered, ordered, none_yet, rom_is, empty_line, obeyed_line, refused_line, went_wrong, lacked_memory, was_damaged, bytes_failed, wrong_line, at_the_end, read_failed, last_number}
+use Rattle.streaming.proofs.Lines.{IsOrdered, ordered, none_yet, rom_is, empty_line, obeyed_line, refused_line, went_wrong, lacked_memory, was_damaged, was_of_another, bytes_failed, wrong_line, at_the_end, read_failed, last_number}
 use Rattle.streaming.proofs.obeying.obey_lines.Given.{Over}
 use Rattle.streaming.proofs.obeying.obey_lines.Goals as goal
 use Rattle.streaming.proofs.obeying.obey_lines.Goals.{In-Line-Some}
@@ -69,6 +69,12 @@ returns-in-Ok-Damaged-clause-obeyed g c =
     let so_far = c.loop-number.invariant.so_far c.requires.of in
     let next = next_is g (goal.at.returns-in-Ok-Damaged-clause-obeyed g c).In-Line-Some in
     was_damaged so_far next c.obey.new.unread.items (rw c.in-Ok-Damaged.field-0-is at (c.in-Ok-Damaged.ensures.step so_far.kept so_far.kept_is))
+
+pub returns-in-Ok-OtherCartridge-clause-obeyed : goal.returns-in-Ok-OtherCartridge-clause-obeyed
+returns-in-Ok-OtherCartridge-clause-obeyed g c =
+    let so_far = c.loop-number.invariant.so_far c.requires.of in
+    let next = next_is g (goal.at.returns-in-Ok-OtherCartridge-clause-obeyed g c).In-Line-Some in
+    was_of_another so_far next c.obey.new.unread.items (rw c.in-Ok-OtherCartridge.field-0-is at (c.in-Ok-OtherCartridge.ensures.step so_far.kept so_far.kept_is))
 
 pub returns-in-Ok-NoMemory-clause-obeyed : goal.returns-in-Ok-NoMemory-clause-obeyed
 returns-in-Ok-NoMemory-clause-obeyed g c =

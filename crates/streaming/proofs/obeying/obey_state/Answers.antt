@@ -1,7 +1,7 @@
 use Rattle.std.proofs.Common.{◌∙◌, ap, subst, arith}
 use Rattle.std.specs.Io.KnownBytes.{Appends}
 use Rattle.exact_text.specs.Written.{AppendsProperPrefix}
-use Rattle.snapshot.specs.Encoding.{encoded}
+use Rattle.state_header.specs.States.{state_of}
 use Rattle.machine_lines.specs.Texts.{state_text}
 use Rattle.playing.proofs.Making.{makes_line, stops_at_line}
 use Rattle.streaming.specs.Answers.{answer}
@@ -14,8 +14,8 @@ returns-in-Ok-clause-obeyed g c =
     let y = g.W.Output.contents c.write_state.new.out in
     let same = c.machine.ensures.machine ∙ ap g.G.Playable.machine c.draw_late.ensures in
     rw c.draw_late.ensures
-    (makes_line g.G.Playable was x y (answer (state_text (encoded (g.G.Playable.machine was)))) (omega arith)
-    (subst (λ m. Appends x y (state_text (encoded m))) same c.in-Ok.ensures.ok))
+    (makes_line g.G.Playable was x y (answer (state_text (state_of (g.G.Playable.machine was)))) (omega arith)
+    (subst (λ m. Appends x y (state_text (state_of m))) same c.in-Ok.ensures.ok))
 
 pub returns-in-Err-clause-stopped : goal.returns-in-Err-clause-stopped
 returns-in-Err-clause-stopped g c =
@@ -25,5 +25,5 @@ returns-in-Err-clause-stopped g c =
     let same = c.machine.ensures.machine ∙ ap g.G.Playable.machine c.draw_late.ensures in
     rw c.draw_late.ensures
     (rw c.unwritten.ensures.is
-    (stops_at_line g.G.Playable was x y (answer (state_text (encoded (g.G.Playable.machine was)))) c.unwritten.ensures.told c.in-Err.ensures.failed
-    (subst (λ m. AppendsProperPrefix x y (state_text (encoded m))) same c.in-Err.ensures.err)))
+    (stops_at_line g.G.Playable was x y (answer (state_text (state_of (g.G.Playable.machine was)))) c.unwritten.ensures.told c.in-Err.ensures.failed
+    (subst (λ m. AppendsProperPrefix x y (state_text (state_of m))) same c.in-Err.ensures.err)))

@@ -84,6 +84,19 @@ returns-in-Ok-Damaged-clause-answered g c =
     let goes = goes_all g.met.D.SectorDevice.only_now (λ a b input one. one) (λ a b one. one) c.in-Ok-resume.session c.stream_on.new.game (inputs_of_deeds streams.deeds) streams.makes.advances in
     rw c.into_device-in-Ok-Damaged.ensures.device (answered_otherwise (answered_both {V = Unit {0}} {faults_after = faults_after} {value = tt} c.in-Ok-resume.ensures.answered goes.calls) (λ n. refl))
 
+pub returns-in-Ok-OtherCartridge-clause-refused : goal.returns-in-Ok-OtherCartridge-clause-refused
+returns-in-Ok-OtherCartridge-clause-refused g c =
+    let streams = c.in-Ok-OtherCartridge.ensures.streamed in
+    let goes = goes_all g.met.D.SectorDevice.only_now (λ a b input one. one) (λ a b one. one) c.in-Ok-resume.session c.stream_on.new.game (inputs_of_deeds streams.deeds) streams.makes.advances in
+    rw c.into_device-in-Ok-OtherCartridge.ensures.device
+    (streamed_to (up g (goal.at.returns-in-Ok-OtherCartridge-clause-refused g c).In-Ok-resume) streams.deeds goes streams.makes.unsaved_is streams.makes.answered c.in-Ok-resume.ensures.begun.2 streams.asks c.in-Ok-OtherCartridge.field-0-is streams.read)
+
+pub returns-in-Ok-OtherCartridge-clause-answered : goal.returns-in-Ok-OtherCartridge-clause-answered
+returns-in-Ok-OtherCartridge-clause-answered g c =
+    let streams = c.in-Ok-OtherCartridge.ensures.streamed in
+    let goes = goes_all g.met.D.SectorDevice.only_now (λ a b input one. one) (λ a b one. one) c.in-Ok-resume.session c.stream_on.new.game (inputs_of_deeds streams.deeds) streams.makes.advances in
+    rw c.into_device-in-Ok-OtherCartridge.ensures.device (answered_otherwise (answered_both {V = Unit {0}} {faults_after = faults_after} {value = tt} c.in-Ok-resume.ensures.answered goes.calls) (λ n. refl))
+
 pub returns-in-Ok-NoMemory-clause-refused : goal.returns-in-Ok-NoMemory-clause-refused
 returns-in-Ok-NoMemory-clause-refused g c =
     let streams = c.in-Ok-NoMemory.ensures.streamed in

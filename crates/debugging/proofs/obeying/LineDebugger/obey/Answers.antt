@@ -10,11 +10,12 @@ use Rattle.debugging.specs.declared.error.DebugError.{DebugError}
 use Rattle.debugging.specs.Run.{RunState}
 use Rattle.debugging.specs.KeptStates.{with_none_kept}
 use Rattle.debugging.specs.Orders.{state_order_of}
-use Rattle.debugging.specs.Answers.{after_line, after_restore, answer_line, answer_restore}
+use Rattle.debugging.specs.Answers.{after_line, answer_line, restored_text}
+use Rattle.debugging.specs.States.{after_snapshot, is_snapshot, rom_of}
 use Rattle.debugging.specs.Switching.{IsNotSwitched}
 use Rattle.debugging.proofs.Exchanges.{IsObeying, state_of, none_obeyed, switch_obeyed, switch_refused, line_obeyed, line_broken, state_obeyed, state_broken, wrong_obeyed, wrong_broken, last_obeyed, last_broken, ended, failed_to_read, all_obeyed}
 use Rattle.snapshot.specs.Legal.{IsOfImage}
-use Rattle.debugging.proofs.Kept.{line_of, ram_length, rom_is, room_is, room_of}
+use Rattle.debugging.proofs.Kept.{line_of, ram_length, rom_is, room_is}
 use Rattle.debugging.proofs.Parts.{on_err_of, on_ok_of}
 use Rattle.debugging.proofs.obeying.LineDebugger.obey.Goals as goal
 use Rattle.debugging.proofs.obeying.LineDebugger.obey.Goals.{in-Line+in_default, in-State, in-Wrong, else-loop-number-test, then-loop-number-test+in-Last+then-is_err, then-loop-number-test+in-Last+else-is_err, then-loop-number-test+in-End, then-loop-number-test+in-Failed, then-loop-number-test+then-is_err-2}
@@ -33,6 +34,12 @@ loop-number-init g c = record {
   room = c.self.invariant.1;
   of = subst (λ (r : RunState). IsOfImage c.args.cartridge.now r.debugger.machine) (sym c.self.view_is) c.requires;
 }
+
+pub next_given-requires : goal.next_given-requires
+next_given-requires g c = ap length c.deref_mut.ensures.value ∙ c.loop-number.invariant.room ∙ ap snapshot_length c.loop-number.invariant.of.ram_length
+
+pub answer-answered-requires-clause-of : goal.answer-answered-requires-clause-of
+answer-answered-requires-clause-of g c = c.loop-number.invariant.of.rom
 
 pub loop-number-preserved : goal.loop-number-preserved
 loop-number-preserved g c =
@@ -63,7 +70,7 @@ loop-number-preserved g c =
             so_far = record {
               machines = machines;
               kept = kept;
-              obeying = line_obeyed c.args.self now c.loop-number.number unread left before since so_far w.in-Line.line taken w.answer-answered.result.run rest known
+              obeying = line_obeyed c.args.cartridge.now c.args.self now c.loop-number.number unread left before since so_far w.in-Line.line taken w.answer-answered.result.run rest known
                   (g.W.Output.contents w.answer-answered.new.out) w.in-Line.ensures.given (ap state_order_of (sym w.as_slice.ensures.value) ∙ sym w.read_state_order.ensures.order ∙ w.in_default.is) moved
                   (subst (λ (line : List ℕ). Appends since (g.W.Output.contents w.answer-answered.new.out) (answer_line line c.loop-number.number c.loop-number.run)) w.as_slice-in-Line.ensures.value
                   (on_ok_of written (c.is_err-in-loop-number.ensures.value ∙ ap is_err w.written-is) c.if-is_err-2.false w.answer-answered.ensures.ok));
@@ -77,16 +84,16 @@ loop-number-preserved g c =
       | in-State w ↦
           let written = w.restore-answered.result.written in
           let bytes = w.deref.ensures.value ∙ items in
-          let moved : w.restore-answered.result.run ≡ after_restore (length taken) taken c.loop-number.run =
+          let moved : w.restore-answered.result.run ≡ after_snapshot taken c.loop-number.run =
           on_ok_of written (c.is_err-in-loop-number.ensures.value ∙ ap is_err w.written-is) c.if-is_err-2.false w.restore-answered.ensures.run
-          ∙ ap (λ (b : List ℕ). after_restore (length b) b c.loop-number.run) bytes in
+          ∙ ap (λ (b : List ℕ). after_snapshot b c.loop-number.run) bytes in
           rw (w.run-is, w.out-is, w.snapshot-is) (record {
             so_far = record {
               machines = machines;
               kept = kept;
-              obeying = state_obeyed c.args.self now c.loop-number.number unread left before since so_far taken w.restore-answered.result.run rest known
+              obeying = state_obeyed c.args.cartridge.now c.args.self now c.loop-number.number unread left before since so_far taken of.rom w.restore-answered.result.run rest known
                   (g.W.Output.contents w.restore-answered.new.out) w.in-State.ensures.given moved
-                  (subst (λ (b : List ℕ). Appends since (g.W.Output.contents w.restore-answered.new.out) (answer_restore (length b) b c.loop-number.number c.loop-number.run)) bytes
+                  (subst (λ (b : List ℕ). Appends since (g.W.Output.contents w.restore-answered.new.out) (restored_text (is_snapshot (rom_of c.loop-number.run) b) c.loop-number.number)) bytes
                   (on_ok_of written (c.is_err-in-loop-number.ensures.value ∙ ap is_err w.written-is) c.if-is_err-2.false w.restore-answered.ensures.ok));
             };
             ended = c.loop-number.invariant.ended;
@@ -99,8 +106,8 @@ loop-number-preserved g c =
             so_far = record {
               machines = machines;
               kept = kept;
-              obeying = wrong_obeyed c.args.self now c.loop-number.number unread left before since so_far taken rest known (g.W.Output.contents w.write_wrong-written.new.out)
-                  (room_of (length taken) rom c.loop-number.run long of) w.in-Wrong.ensures.given
+              obeying = wrong_obeyed c.args.cartridge.now c.args.self now c.loop-number.number unread left before since so_far taken rest known (g.W.Output.contents w.write_wrong-written.new.out)
+                  of.rom w.in-Wrong.ensures.given
                   (on_ok_of w.write_wrong-written.result (c.is_err-in-loop-number.ensures.value ∙ ap is_err w.written-is) c.if-is_err-2.false w.write_wrong-written.ensures.ok);
             };
             ended = c.loop-number.invariant.ended;
@@ -120,8 +127,8 @@ loop-number-preserved-in-Some g c =
     let long : length taken ≡ snapshot_length (ram_length c.loop-number.run) = c.next_given.ensures.room ∙ ap length c.deref_mut.ensures.value ∙ c.loop-number.invariant.room in
     let items = with_items_is c.loop-number.snapshot taken (omega (arith, c.next_given.ensures.room, ap length c.deref_mut.ensures.value, c.loop-number.snapshot.ok)) in
     record {
-      so_far = switch_obeyed c.args.self (state_of c.loop-number.run so_far.machines) c.loop-number.number (g.R.LineInput.remaining c.args.input.now)
-          (left_of c.loop-number.unread.items (g.R.LineInput.remaining c.loop-number.input)) (g.W.Output.contents c.args.out.now) (g.W.Output.contents c.loop-number.out) so_far.obeying rom c.switch.new.kept
+      so_far = switch_obeyed c.args.cartridge.now c.args.self (state_of c.loop-number.run so_far.machines) c.loop-number.number (g.R.LineInput.remaining c.args.input.now)
+          (left_of c.loop-number.unread.items (g.R.LineInput.remaining c.loop-number.input)) (g.W.Output.contents c.args.out.now) (g.W.Output.contents c.loop-number.out) so_far.obeying c.switch.new.kept
           c.in-Line.line taken c.in-Some.order c.in-Ok.run' (left_of c.next_given.new.unread.items known) known (g.W.Output.contents c.switch.new.out) c.in-Line.ensures.given
           (ap state_order_of (sym c.as_slice.ensures.value) ∙ sym c.read_state_order.ensures.order ∙ c.in-Some.is) (c.in-Ok.ensures.done so_far.machines so_far.kept);
       ended = c.loop-number.invariant.ended;
@@ -138,13 +145,13 @@ returns-clause-answered g c =
           (g.W.Output.contents c.args.out.now) (g.W.Output.contents c.loop-number.out) c.loop-number.invariant.so_far.obeying (omega (arith, w.loop-number-test.false, c.loop-number.auto.number-end)))
       | then-loop-number-test+in-Last+then-is_err w ↦ rw w.ended-is tt
       | then-loop-number-test+in-Last+else-is_err w ↦ rw (w.ended-is, c.loop-number.invariant.ended, w.input-is, w.out-is) (
-          last_obeyed c.args.self (state_of c.loop-number.run c.loop-number.invariant.so_far.machines) c.loop-number.number (g.R.LineInput.remaining c.args.input.now) (left_of c.loop-number.unread.items (g.R.LineInput.remaining c.loop-number.input))
+          last_obeyed c.args.cartridge.now c.args.self (state_of c.loop-number.run c.loop-number.invariant.so_far.machines) c.loop-number.number (g.R.LineInput.remaining c.args.input.now) (left_of c.loop-number.unread.items (g.R.LineInput.remaining c.loop-number.input))
           (g.W.Output.contents c.args.out.now) (g.W.Output.contents c.loop-number.out) c.loop-number.invariant.so_far.obeying
           w.next_given.new.snapshot (left_of w.next_given.new.unread.items (g.R.LineInput.remaining w.next_given.new.input)) (g.R.LineInput.remaining w.next_given.new.input) (g.W.Output.contents w.write_wrong.new.out)
-          (room_of (length w.next_given.new.snapshot) c.args.cartridge.now c.loop-number.run (w.next_given.ensures.room ∙ ap length w.deref_mut.ensures.value ∙ c.loop-number.invariant.room) c.loop-number.invariant.of) w.in-Last.ensures.given
+          c.loop-number.invariant.of.rom w.in-Last.ensures.given
           (on_ok_of w.write_wrong.result w.is_err.ensures.value w.if-is_err.false w.write_wrong.ensures.ok))
       | then-loop-number-test+in-End w ↦ rw (w.ended-is, c.loop-number.invariant.ended, w.input-is, w.out-is) (
-          ended c.args.self (state_of c.loop-number.run c.loop-number.invariant.so_far.machines) c.loop-number.number (g.R.LineInput.remaining c.args.input.now) (left_of c.loop-number.unread.items (g.R.LineInput.remaining c.loop-number.input))
+          ended c.args.cartridge.now c.args.self (state_of c.loop-number.run c.loop-number.invariant.so_far.machines) c.loop-number.number (g.R.LineInput.remaining c.args.input.now) (left_of c.loop-number.unread.items (g.R.LineInput.remaining c.loop-number.input))
           (g.W.Output.contents c.args.out.now) (g.W.Output.contents c.loop-number.out) c.loop-number.invariant.so_far.obeying
           w.next_given.new.snapshot (left_of w.next_given.new.unread.items (g.R.LineInput.remaining w.next_given.new.input)) (g.R.LineInput.remaining w.next_given.new.input) w.in-End.ensures.given)
       | then-loop-number-test+in-Failed w ↦ rw w.ended-is tt
@@ -156,36 +163,36 @@ returns-clause-refused g c =
     elim c.loop-number-test.branch [
       | else-loop-number-test w ↦ rw (w.ended-is, c.loop-number.invariant.ended) tt
       | then-loop-number-test+in-Last+then-is_err w ↦ rw (w.ended-is, w.input-is, w.out-is) (
-          last_broken c.args.self (state_of c.loop-number.run c.loop-number.invariant.so_far.machines) c.loop-number.number (g.R.LineInput.remaining c.args.input.now) (left_of c.loop-number.unread.items (g.R.LineInput.remaining c.loop-number.input))
+          last_broken c.args.cartridge.now c.args.self (state_of c.loop-number.run c.loop-number.invariant.so_far.machines) c.loop-number.number (g.R.LineInput.remaining c.args.input.now) (left_of c.loop-number.unread.items (g.R.LineInput.remaining c.loop-number.input))
           (g.W.Output.contents c.args.out.now) (g.W.Output.contents c.loop-number.out) c.loop-number.invariant.so_far.obeying
           w.next_given.new.snapshot (left_of w.next_given.new.unread.items (g.R.LineInput.remaining w.next_given.new.input)) (g.R.LineInput.remaining w.next_given.new.input) (g.W.Output.contents w.write_wrong.new.out)
-          (room_of (length w.next_given.new.snapshot) c.args.cartridge.now c.loop-number.run (w.next_given.ensures.room ∙ ap length w.deref_mut.ensures.value ∙ c.loop-number.invariant.room) c.loop-number.invariant.of) w.in-Last.ensures.given
+          c.loop-number.invariant.of.rom w.in-Last.ensures.given
           (on_err_of w.write_wrong.result w.is_err.ensures.value w.if-is_err.true w.write_wrong.ensures.err))
       | then-loop-number-test+in-Last+else-is_err w ↦ rw (w.ended-is, c.loop-number.invariant.ended) tt
       | then-loop-number-test+in-End w ↦ rw (w.ended-is, c.loop-number.invariant.ended) tt
       | then-loop-number-test+in-Failed w ↦ rw (w.ended-is, w.input-is, w.out-is) (
-          failed_to_read c.args.self (state_of c.loop-number.run c.loop-number.invariant.so_far.machines) c.loop-number.number (g.R.LineInput.remaining c.args.input.now) (left_of c.loop-number.unread.items (g.R.LineInput.remaining c.loop-number.input))
+          failed_to_read c.args.cartridge.now c.args.self (state_of c.loop-number.run c.loop-number.invariant.so_far.machines) c.loop-number.number (g.R.LineInput.remaining c.args.input.now) (left_of c.loop-number.unread.items (g.R.LineInput.remaining c.loop-number.input))
           (g.W.Output.contents c.args.out.now) (g.W.Output.contents c.loop-number.out) c.loop-number.invariant.so_far.obeying
           w.next_given.new.snapshot (left_of w.next_given.new.unread.items (g.R.LineInput.remaining w.next_given.new.input)) (g.R.LineInput.remaining w.next_given.new.input) w.in-Failed.ensures.given)
       | then-loop-number-test+then-is_err-2 w ↦ rw (w.ended-is, w.input-is, w.out-is) (elim w.match-next_given.branch [
         | in-Line+in_default w' ↦ rw w'.out-is (
-            line_broken c.args.self (state_of c.loop-number.run c.loop-number.invariant.so_far.machines) c.loop-number.number (g.R.LineInput.remaining c.args.input.now) (left_of c.loop-number.unread.items (g.R.LineInput.remaining c.loop-number.input))
+            line_broken c.args.cartridge.now c.args.self (state_of c.loop-number.run c.loop-number.invariant.so_far.machines) c.loop-number.number (g.R.LineInput.remaining c.args.input.now) (left_of c.loop-number.unread.items (g.R.LineInput.remaining c.loop-number.input))
             (g.W.Output.contents c.args.out.now) (g.W.Output.contents c.loop-number.out) c.loop-number.invariant.so_far.obeying
             w'.in-Line.line w.next_given.new.snapshot w.next_given.new.unread.items (g.R.LineInput.remaining w.next_given.new.input) (g.W.Output.contents w'.answer-answered.new.out) w'.in-Line.ensures.given (ap state_order_of (sym w'.as_slice.ensures.value) ∙ sym w'.read_state_order.ensures.order ∙ w'.in_default.is)
             (subst (λ (line : List ℕ). AppendsProperPrefix (g.W.Output.contents c.loop-number.out) (g.W.Output.contents w'.answer-answered.new.out) (answer_line line c.loop-number.number c.loop-number.run)) w'.as_slice-in-Line.ensures.value
             (on_err_of w'.answer-answered.result.written (w.is_err-in-loop-number.ensures.value ∙ ap is_err w'.written-is) w.if-is_err-2.true w'.answer-answered.ensures.err)))
         | in-State w' ↦ rw w'.out-is (
-            state_broken c.args.self (state_of c.loop-number.run c.loop-number.invariant.so_far.machines) c.loop-number.number (g.R.LineInput.remaining c.args.input.now) (left_of c.loop-number.unread.items (g.R.LineInput.remaining c.loop-number.input))
+            state_broken c.args.cartridge.now c.args.self (state_of c.loop-number.run c.loop-number.invariant.so_far.machines) c.loop-number.number (g.R.LineInput.remaining c.args.input.now) (left_of c.loop-number.unread.items (g.R.LineInput.remaining c.loop-number.input))
             (g.W.Output.contents c.args.out.now) (g.W.Output.contents c.loop-number.out) c.loop-number.invariant.so_far.obeying
-            w.next_given.new.snapshot w.next_given.new.unread.items (g.R.LineInput.remaining w.next_given.new.input) (g.W.Output.contents w'.restore-answered.new.out) w'.in-State.ensures.given
-            (subst (λ (bytes : List ℕ). AppendsProperPrefix (g.W.Output.contents c.loop-number.out) (g.W.Output.contents w'.restore-answered.new.out) (answer_restore (length bytes) bytes c.loop-number.number c.loop-number.run))
+            w.next_given.new.snapshot c.loop-number.invariant.of.rom w.next_given.new.unread.items (g.R.LineInput.remaining w.next_given.new.input) (g.W.Output.contents w'.restore-answered.new.out) w'.in-State.ensures.given
+            (subst (λ (bytes : List ℕ). AppendsProperPrefix (g.W.Output.contents c.loop-number.out) (g.W.Output.contents w'.restore-answered.new.out) (restored_text (is_snapshot (rom_of c.loop-number.run) bytes) c.loop-number.number))
             (w'.deref.ensures.value ∙ with_items_is c.loop-number.snapshot w.next_given.new.snapshot (omega (arith, w.next_given.ensures.room, ap length w.deref_mut.ensures.value, c.loop-number.snapshot.ok)))
             (on_err_of w'.restore-answered.result.written (w.is_err-in-loop-number.ensures.value ∙ ap is_err w'.written-is) w.if-is_err-2.true w'.restore-answered.ensures.err)))
         | in-Wrong w' ↦ rw w'.out-is (
-            wrong_broken c.args.self (state_of c.loop-number.run c.loop-number.invariant.so_far.machines) c.loop-number.number (g.R.LineInput.remaining c.args.input.now) (left_of c.loop-number.unread.items (g.R.LineInput.remaining c.loop-number.input))
+            wrong_broken c.args.cartridge.now c.args.self (state_of c.loop-number.run c.loop-number.invariant.so_far.machines) c.loop-number.number (g.R.LineInput.remaining c.args.input.now) (left_of c.loop-number.unread.items (g.R.LineInput.remaining c.loop-number.input))
             (g.W.Output.contents c.args.out.now) (g.W.Output.contents c.loop-number.out) c.loop-number.invariant.so_far.obeying
             w.next_given.new.snapshot w.next_given.new.unread.items (g.R.LineInput.remaining w.next_given.new.input) (g.W.Output.contents w'.write_wrong-written.new.out)
-            (room_of (length w.next_given.new.snapshot) c.args.cartridge.now c.loop-number.run (w.next_given.ensures.room ∙ ap length w.deref_mut.ensures.value ∙ c.loop-number.invariant.room) c.loop-number.invariant.of) w'.in-Wrong.ensures.given
+            c.loop-number.invariant.of.rom w'.in-Wrong.ensures.given
             (on_err_of w'.write_wrong-written.result (w.is_err-in-loop-number.ensures.value ∙ ap is_err w'.written-is) w.if-is_err-2.true w'.write_wrong-written.ensures.err))
       ])
     ]
@@ -193,7 +200,7 @@ returns-clause-refused g c =
 pub returns-in-Err-clause-refused : goal.returns-in-Err-clause-refused
 returns-in-Err-clause-refused g c =
     let so_far = c.loop-number.invariant.so_far in
-    switch_refused c.args.self (state_of c.loop-number.run so_far.machines) c.loop-number.number (g.R.LineInput.remaining c.args.input.now) (left_of c.loop-number.unread.items (g.R.LineInput.remaining c.loop-number.input))
+    switch_refused c.args.cartridge.now c.args.self (state_of c.loop-number.run so_far.machines) c.loop-number.number (g.R.LineInput.remaining c.args.input.now) (left_of c.loop-number.unread.items (g.R.LineInput.remaining c.loop-number.input))
     (g.W.Output.contents c.args.out.now) (g.W.Output.contents c.loop-number.out) so_far.obeying
     c.in-Line.line c.next_given.new.snapshot c.in-Some.order c.next_given.new.unread.items (g.R.LineInput.remaining c.next_given.new.input) (g.W.Output.contents c.switch.new.out) c.in-Err.why c.in-Line.ensures.given
     (ap state_order_of (sym c.as_slice.ensures.value) ∙ sym c.read_state_order.ensures.order ∙ c.in-Some.is) (c.in-Err.ensures.refused so_far.machines so_far.kept)
