@@ -20,9 +20,9 @@ from pathlib import Path
 from typing import NoReturn
 
 from . import memory_pictures
-from .game import MOST_FRAMES, MOST_SECONDS, MOST_STATE, PICTURE_BYTES, STATE_HEAD, Picture, Refused, find_program, line_of, started
+from .game import MOST_FRAMES, MOST_SECONDS, MOST_STATE, PICTURE_BYTES, Picture, Refused, find_program, line_of, started
 from .input_files import PathLike, WrongInput, number, printable, read_bytes
-from .machines import SLOTS
+from .machines import SLOTS, STATE_HEADER, STATE_MARK
 from .memory_pictures import MAP_BYTES, MAPS, OAM, OAM_BYTES, REGISTER_BYTES, REGISTERS, VRAM, VRAM_BYTES, Canvas
 from .new_files import Unsafe, new_file
 from .pictures import PICTURE_HEADS, PNG_HEAD, png_of
@@ -55,8 +55,9 @@ HELP = '''\
   serial              the bytes that were sent since the last serial
   picture FILE        writes the picture: PNG where FILE ends in .png, else plain PGM;
                       a FILE that is there has to be a picture
-  state FILE          writes the machine's snapshot; a FILE that is there has to be one
-  restore FILE        makes the machine the one of the snapshot in FILE; the history is empty then
+  state FILE          writes the machine's state; a FILE that is there has to be one
+  restore FILE        makes the machine the one of the state in FILE, which is one of the same
+                      cartridge; the history is empty then
   keep [K]            keeps the machine under K (0), up to 999, until the prompt ends
   back [K]            makes the machine the one that was kept under K (0); the history is empty then
   power               the power switch, off and on: what a battery keeps stays
@@ -536,10 +537,13 @@ class Session:
         data += self.program.bytes(PICTURE_BYTES - len(data))
         return self.written(path, Picture(data).png() if path.suffix == '.png' else data, PICTURE_HEADS)
 
+    def state(self) -> bytes:
+        answer = self.program.ask('state')
+        return self.program.bytes(self.program.number(answer, MOST_STATE))
+
     def do_state(self, words):
         path = Path(few(words, 1, 1)[0])
-        answer = self.program.ask('state')
-        return self.written(path, self.program.bytes(self.program.number(answer, MOST_STATE)), (STATE_HEAD,))
+        return self.written(path, self.state(), (STATE_MARK,))
 
     def do_restore(self, words):
         path = few(words, 1, 1)[0]
@@ -547,9 +551,14 @@ class Session:
             state = read_bytes(path, MOST_STATE)
         except (OSError, WrongInput) as error:
             raise Wrong(str(error)) from None
-        if not state:
-            raise Wrong(f'{quoted(path)} is empty')
-        return [self.program.ask(f'restore {len(state)}', state)]
+        if len(state) < STATE_HEADER or not state.startswith(STATE_MARK):
+            raise Wrong(f'{quoted(path)} is no state: give a file that `state` has written')
+        if not state.startswith(self.state()[:STATE_HEADER]):
+            raise Wrong(f'{quoted(path)} is a state of another cartridge: begin with that one, or give a state of this one')
+        try:
+            return [self.program.ask(f'restore {len(state)}', state)]
+        except Wrong:
+            raise Wrong(f'{quoted(path)} is damaged: give another state of this cartridge') from None
 
     def slot(self, words):
         return count_of((few(words, 0, 1) or ['0'])[0], (0, SLOTS - 1))

@@ -31,7 +31,7 @@ from types import TracebackType
 from typing import TYPE_CHECKING, BinaryIO, NoReturn, Optional, SupportsIndex
 
 from .input_files import MOST_CART, PathLike, printable
-from .machines import NO_STATE, Buffer, Cart, MissingProgram, NoState, Played, Refused, bytes_of
+from .machines import NO_STATE, STATE_HEADER, STATE_MARK, Buffer, Cart, MissingProgram, NoState, Played, Refused, bytes_of
 from .pictures import HEIGHT, PICTURE_HEAD, SCALE, WIDTH, png_of
 from .streams import take_streams
 
@@ -46,7 +46,7 @@ PIECE = 4096
 # as much as a program says of itself without a line end: more of it is no program of ours
 MOST_UNREAD = 1 << 20
 # a state of a cartridge with the most RAM is shorter
-MOST_STATE, STATE_HEAD = 1 << 20, b'GBSNAP01'
+MOST_STATE = 1 << 20
 MOST_COUNT = (1 << 64) - 1
 # 2.3 MiB: ten hours of play with ten changes of buttons a second
 RECORDING_SECTORS = 4_800
@@ -228,12 +228,14 @@ class Lines(Played):
     output: int
     # what came and is not taken yet; the answers that are known and did not come yet are in `known`
     unread: bytearray
+    # what the states of this cartridge begin with, and how many bytes they have, once one was told
+    own: Optional[tuple[bytes, int]]
 
     def _start(self, words: list[str], **how: object) -> None:
         self.command = words[1]
         self.process = started(words, stdin=subprocess.PIPE, stdout=subprocess.PIPE, stderr=subprocess.PIPE, bufsize=0, **how)
         self.input, self.output = self.process.stdin.fileno(), self.process.stdout.fileno()
-        self.unread, self.kept = bytearray(), set()
+        self.unread, self.kept, self.own = bytearray(), set(), None
 
     @property
     def closed(self) -> bool:
@@ -263,10 +265,22 @@ class Lines(Played):
         return self._counted(b'state')
 
     def _restore(self, state: bytes) -> None:
-        if not 1 <= len(state) <= MOST_STATE:
-            raise NoState
+        self._look_at(state)
         self._ask(b'restore %d\n' % len(state) + state)
         if self._line() != b'restored':
+            raise NoState
+
+    def _look_at(self, state: bytes) -> None:
+        """Refuses bytes whose header or length is not that of a state of this cartridge."""
+        if self.own is None:
+            one = self._state()
+            self.own = one[:STATE_HEADER], len(one)
+        header, length = self.own
+        if len(state) < STATE_HEADER or not state.startswith(STATE_MARK):
+            raise NoState
+        if not state.startswith(header):
+            raise NoState('gbkeep: other cartridge', 'it is a state of another ROM')
+        if len(state) != length:
             raise NoState
 
     def _memory(self, address: int, count: int) -> bytes:
@@ -397,8 +411,8 @@ class Game(Lines):
             if recording and not os.path.lexists(recording):
                 begin_recording(cart, recording, program=program)
             begin(cart, save, program)
-        # the answers that are known, and the length of this cartridge's states
-        self.known, self.length = collections.deque(), None
+        # the answers that are known
+        self.known = collections.deque()
         with named(cart) as (name, descriptors):
             words = ['record', '--', name, str(save), str(recording)] if recording else ['stream', '--', name, str(save)]
             # a Ctrl-C or the end of a login is for the caller: the program goes on, and saves what is unsaved when it is closed
@@ -424,8 +438,8 @@ class Game(Lines):
         super().back(number)
 
     def restore(self, state: Buffer) -> None:
-        """From now on the machine of this state: one input. Bytes of another length or kind are refused with `NoState`, with nothing done; others that are no
-        state of this cartridge are refused so, too, and end the game, and what was given before is saved."""
+        """From now on the machine of this state: one input. A state of another ROM, and bytes of another length or kind, are refused with `NoState`, with
+        nothing done; others that are no state of this cartridge are refused so, too, and end the game, and what was given before is saved."""
         super().restore(state)
 
     def _power(self) -> None:
@@ -442,10 +456,6 @@ class Game(Lines):
 
     def _restore(self, state: bytes) -> None:
         self._changes()
-        if self.length is None:
-            self.length = len(self._state())
-        if len(state) != self.length or not state.startswith(STATE_HEAD):
-            raise NoState
         try:
             super()._restore(state)
         except Refused as refused:

@@ -27,7 +27,7 @@ from .game import Picture, prefix
 from .input_files import SECTOR
 from .machines import MOST_GIVEN, PICTURE_LENGTH, Buffer, Cart, NoState, Played, Refused, bytes_of, number, rom_of
 
-SAVE_FIRST, DAMAGED_SNAPSHOT = 15, 6
+SAVE_FIRST, DAMAGED_SNAPSHOT, OTHER_CARTRIDGE = 15, 6, 10
 MOST_UNSAVED = 3_200
 # Python sees a Ctrl-C when a call of C has ended: of so many frames within some 50 ms
 FRAMES_AT_ONCE = 1_000
@@ -67,8 +67,8 @@ def find_library() -> str:
 
 
 def advice_of(line: str) -> str:
-    """What to do about a line of the library, which is one of the table without its numbers."""
-    cut = ((fault.partition(',')[0].removesuffix(' N').removesuffix(' XX'), advice) for fault, _, _, advice in FAULTS)
+    """What to do about a line of the library, which is one of the table without its numbers, whatever the command."""
+    cut = ((fault.partition(',')[0].removesuffix(' N').removesuffix(' XX'), advice) for fault, of, _, advice in FAULTS if not of)
     return ADVICE[line] if line in ADVICE else next((advice for fault, advice in cut if fault == line), '')
 
 
@@ -213,7 +213,7 @@ class _Held(Played):
     def _take(self, state: object) -> None:
         """From now on the machine of `_copy`, or of a state."""
         code = self._call('restore', state, len(state))
-        if code == DAMAGED_SNAPSHOT:
+        if code in (DAMAGED_SNAPSHOT, OTHER_CARTRIDGE):
             raise NoState(*self._text(code), code=code)
         self._done(code)
 

@@ -29,6 +29,8 @@ MOST_ADDRESS, MOST_MEMORY = 0xffff, 0x10000
 # the numbers under which a machine keeps its states are below it
 SLOTS = 1000
 NO_STATE = 'no state of this cartridge'
+# how many bytes stand in front of a state's snapshot: its mark, and the SHA-256 of the ROM
+STATE_HEADER, STATE_MARK = 40, b'GBSTATE1'
 
 # what has bytes: an array of numpy has them, too
 Buffer = Union[bytes, bytearray, memoryview]
@@ -208,12 +210,13 @@ class Played:
         self._back(number)
 
     def state(self) -> bytes:
-        """The machine's snapshot, as bytes: all of it but the ROM."""
+        """The machine as bytes: all of it but the ROM, which they name."""
         self._has_to_be_open()
         return self._state()
 
     def restore(self, state: Buffer) -> None:
-        """From now on the machine of this state: one input of a game. One that is no state of the cartridge is refused with `NoState`, with nothing done."""
+        """From now on the machine of this state: one input of a game. One that is no state of the cartridge is refused with `NoState`, with nothing done; its
+        line ends in `other cartridge` where it is one of another ROM."""
         self._has_to_be_open()
         self._restore(bytes_of(state))
 

@@ -3,6 +3,7 @@
 usage: test_debug.py GBKEEP [TEST..]
 
 The status is 1 where a test fails."""
+import hashlib
 import os
 import pty
 import select
@@ -228,13 +229,28 @@ def test_states(room):
     """A state is written, given back and refused where it is none."""
     state, other = room.folder / 'one.state', room.write('other.state', 'text')
     made = room.tool(CART, '--do', 'frames 00 60', '--do', f'state {state}', '--do', 'frames 80 4', '--do', 'digest')
-    expect('what is written', (made[0], state.read_bytes()[:8], made[2]), (0, b'GBSNAP01', ''))
+    expect('what is written', (made[0], state.read_bytes()[:48], made[2]), (0, b'GBSTATE1' + hashlib.sha256(CART.read_bytes()).digest() + b'GBSNAP01', ''))
     status, out, err = room.tool(CART, '--do', f'restore {state}', '--do', 'frames 80 4', '--do', 'digest', '--do', f'state {state}')
     expect('what is given back', (status, out.splitlines()[0], out.splitlines()[-1], err), (0, 'restored', made[1].splitlines()[-1], ''))
     for line in (f'restore {other}', f'state {other}', f'restore {room.folder / "none"}', 'restore', f'state {CART}'):
         status, out, err = room.tool(CART, '--do', line)
         expect(f'the error of {line!r}', (status, out, err.startswith('gbkeep-debug: --do 1: ')), (1, '', True))
     expect('it is left', other.read_text(), 'text')
+    # of a ROM that differs in a byte, and what is none of this one
+    rom, whole = bytearray(CART.read_bytes()), state.read_bytes()
+    rom[0x150] ^= 1
+    changed = room.folder / 'changed.gb'
+    changed.write_bytes(rom)
+    for name, data, cart, why in (('whole', whole, changed, 'is a state of another cartridge'), ('header', whole[:40], changed, 'is a state of another cartridge'),
+                                  ('bare', whole[40:], CART, 'is no state'), ('short', whole[:39], CART, 'is no state'), ('empty', b'', CART, 'is no state'),
+                                  ('text', b'text', CART, 'is no state'), ('cut', whole[:-1], CART, 'is damaged'), ('alone', whole[:40], CART, 'is damaged'),
+                                  ('field', whole[:60] + b'\xff' + whole[61:], CART, 'is damaged')):
+        path = room.folder / f'{name}.bytes'
+        path.write_bytes(data)
+        status, out, err = room.tool(cart, '--do', 'digest', '--do', f'restore {path}', '--do', 'digest')
+        expect(f'the bytes {name!r}', (status, out.count('digest'), err.startswith(f"gbkeep-debug: --do 2: '{path}' {why}: "), err.count('\n')), (1, 1, True, 1))
+    bare = room.folder / 'bare.bytes'
+    expect('a snapshot is left', (room.tool(CART, '--do', f'state {bare}')[0], bare.read_bytes() == whole[40:]), (1, True))
     lines = ('frames 00 60', 'keep', 'keep 999', 'frames 80 4', 'keep 1', 'digest', 'back', 'digest', 'back 1', 'digest', 'back 999', 'digest', 'history', 'power', 'registers')
     status, out, err = room.tool(CART, *(word for line in lines for word in ('--do', line)))
     shown = out.splitlines()

@@ -169,6 +169,15 @@ print(hashlib.sha256(repr([(one[0]['picture'].tobytes(), one[0]['memory'].tobyte
     expect('in other processes', (told[0] == told[1], len(told[0])), (True, 65))
 
 
+def other_cart(folder):
+    """The demo with a byte of its code changed: its controller and its RAM are the same."""
+    rom = bytearray(CART.read_bytes())
+    rom[0x0150] ^= 1
+    path = folder / 'changed.gb'
+    path.write_bytes(rom)
+    return path
+
+
 def test_states(folder):
     """An environment goes on from a state as if nothing had come since, in another process, too; a search tries all ways from each place."""
     needs_numpy()
@@ -184,6 +193,11 @@ def test_states(folder):
             got = [*(again.step(action) for action in (0, 3, 3)), again.reset(), *(again.step(action) for action in (1, 1))]
             expect('from a state', same(got, wanted), True)
         expect('no state', support.refusal(lambda: env.restore(state._replace(machine=b'x')), NoState) is not None, True)
+        with Environment(other_cart(folder), **how) as another:
+            before = another.machine.state()
+            for call in (lambda: another.restore(state), lambda: another.reset(options={'state': state.machine}), lambda: another.machine.restore(state.machine)):
+                expect('of another ROM', (support.refusal(call, NoState), another.machine.state() == before), ('other cartridge', True))
+        expect('to begin with', support.refusal(lambda: Environment(other_cart(folder), begin=state.machine), NoState), 'other cartridge')
         best, places = (0.0, ()), [((), 0.0, state)]
         for _ in range(3):
             found = []

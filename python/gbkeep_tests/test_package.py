@@ -15,7 +15,9 @@ import sys
 from pathlib import Path
 
 import gbkeep
+from gbkeep.faults import explained
 from gbkeep.game import PICTURE_HEAD, bytes_of
+from gbkeep.library import advice_of
 from gbkeep.machines import number, room_of
 from gbkeep_tests import support
 from gbkeep_tests.support import TOP, expect
@@ -107,6 +109,11 @@ def test_refusals(folder):
                 support.wrong(f'{name}: nothing is raised')
             except gbkeep.Refused as other:
                 expect(f'{name}: from a process', [type(other), *(getattr(other, part) for part in held)], [type(one), *(getattr(one, part) for part in held)])
+    # a line that two commands explain in their own way
+    expect('of a stream', explained('gbkeep: other cartridge', 'stream'), ('the game in SAVE is of another ROM; or the state behind a `restore` is, and what was given before is saved',
+                                                                           'use the ROM that it was begun with; give a state of this cartridge'))
+    expect('of any other', [explained('gbkeep: other cartridge', command)[1] for command in ('play', 'record')] + [advice_of('other cartridge')],
+           ['use the ROM that it was begun with'] * 3)
     expect('no state is a wrong value, too', (issubclass(gbkeep.NoState, ValueError), issubclass(gbkeep.NoState, gbkeep.Refused)), (True, True))
     refused = gbkeep.Refused('gbkeep: device failed', 'new')
     refused.means, refused.advice = 'x exists already', ''

@@ -4,6 +4,7 @@ usage: test_players.py GBKEEP [TEST..]
 
 The status is 1 where a test fails."""
 import contextlib
+import hashlib
 import io
 import os
 import pty
@@ -20,7 +21,7 @@ from gbkeep_tests import support
 from gbkeep_tests.support import CART, TOP, clock_cart, expect, needs_terminal
 from gbkeep.branch import branch
 from gbkeep.film import HEAD as FILM_HEAD
-from gbkeep.game import A, LEFT, RIGHT, START, Game, DebugMachine, Refused, begin, run
+from gbkeep.game import A, LEFT, RIGHT, START, Game, DebugMachine, NoState, Refused, begin, run
 from gbkeep.movie import bk2_frames, bk2_of, frames_of, log_frames, moves_of, vbm_frames
 from gbkeep.pictures import png_of
 from gbkeep.rest import rest_of
@@ -192,7 +193,7 @@ def test_states_of_a_game(room):
                 one.keep(number % 7)
                 one.frame(number)
                 one.back(number % 5 if number > 5 else 3)
-        for bad in (b'', first[:-1], first + b'x', b'X' + first[1:], b'x' * (1 << 20), b'x' * (1 << 20) + b'x'):
+        for bad in (b'', first[:-1], first + b'x', b'X' + first[1:], first[:39], first[:40], first[40:], b'x' * (1 << 20), b'x' * (1 << 20) + b'x'):
             expect('no state', refusal(lambda: game.restore(bad)), 'no state of this cartridge')
         for call in (lambda: game.back(8), lambda: game.back(-1), lambda: game.keep(1000), lambda: game.keep(-1), lambda: game.memory(-1, 1),
                      lambda: game.memory(0x10000, 1), lambda: game.memory(0, 0), lambda: game.memory(0, 65537), lambda: game.seconds(-1)):
@@ -204,7 +205,7 @@ def test_states_of_a_game(room):
         game.restore(memoryview(first))
         game.frame(A)
         try:
-            game.restore(first[:20] + b'\xff' + first[21:])
+            game.restore(first[:60] + b'\xff' + first[61:])
             expect('bytes that are no state', True, False)
         except Refused as refused:
             expect('the refusal', (refused.line, refused.means), ('gbkeep: damaged snapshot', 'no state of this cartridge'))
@@ -212,6 +213,47 @@ def test_states_of_a_game(room):
     with Game(CART, room.path('other.gbkeep'), room.program) as game:
         game.restore(last)
         expect('in another game', (game.state() == last, game.save()), (True, 1))
+
+
+def header_of(rom):
+    """What a state of this ROM begins with."""
+    return b'GBSTATE1' + hashlib.sha256(rom).digest()
+
+
+def test_states_of_another_rom(room):
+    """They are refused as such with nothing done, and the game goes on: of a ROM that differs in one byte, and of one with less RAM."""
+    rom = bytearray(CART.read_bytes())
+    rom[0x0150] ^= 1
+    changed, small = room.write('changed.gb', bytes(rom)), room.write('small.gb', bytes(32_768))
+    theirs = []
+    for cart in (changed, small):
+        with DebugMachine(cart, program=room.program) as machine:
+            machine.frames(0, 3)
+            theirs.append(machine.state())
+            expect('what it begins with', (theirs[-1][:40], len(theirs[-1])), (header_of(cart.read_bytes()), {changed: 55_415, small: 22_647}[cart]))
+    save = room.path('other-rom.gbkeep')
+    with Game(CART, save, room.program) as game, DebugMachine(CART, program=room.program) as machine:
+        for one in (game, machine):
+            one.frames(START, 5)
+            before = one.state()
+            for state in (*theirs, theirs[0][:40], theirs[0] + bytes(1 << 20), theirs[0][:40] + before[40:]):
+                try:
+                    one.restore(state)
+                    expect(f'a state of another ROM is taken by {type(one).__name__}', True, False)
+                except NoState as refused:
+                    expect('the refusal', (refused.line, refused.means, refused.advice),
+                           ('gbkeep: other cartridge', 'it is a state of another ROM', 'give what `state` answered of this cartridge'))
+            expect('nothing is done then', (one.closed, one.state()), (False, before))
+            one.frame(A)
+        expect('what is saved', (game.count, game.save()), (6, 6))
+        last = machine.state()
+    with Game(CART, save, room.program) as game:
+        expect('what is kept', (game.resumed, game.state() == last), (6, True))
+    # the program has the same line, where the package does not look first
+    game = Game(CART, save, room.program)
+    game._look_at = lambda state: None
+    game.frame(A)
+    expect('of the program', (refusal(lambda: game.restore(theirs[0])), game.saved), ('gbkeep: other cartridge', 7))
 
 
 def test_wrong_answers(room):
@@ -262,7 +304,7 @@ def test_machine(room):
         machine.frames(0, 60)
         machine.frames(START, 4)
         first, place = machine.state(), machine.memory(0xc001, 2)
-        expect('a state', (first[:8], len(first)), (b'GBSNAP01', 22_607 + 32_768))
+        expect('a state', (first[:48], len(first)), (header_of(CART.read_bytes()) + b'GBSNAP01', 40 + 22_607 + 32_768))
         for _ in range(3):
             machine.frames(RIGHT, 20)
             machine.seconds(1)
@@ -270,7 +312,7 @@ def test_machine(room):
         expect('the player has moved', machine.memory(0xc001, 2) != place, True)
         machine.restore(first)
         expect('back', (machine.state() == first, machine.memory(0xc001, 2)), (True, place))
-        for bad in (b'', first[:-1], first + b'x', b'X' + first[1:], first[:20] + b'\xff' + first[21:], b'x' * (1 << 20)):
+        for bad in (b'', first[:-1], first + b'x', b'X' + first[1:], first[:39], first[:40], first[40:], first[:60] + b'\xff' + first[61:], b'x' * (1 << 20)):
             try:
                 machine.restore(bad)
                 expect('no state is taken', bad[:30], None)
@@ -312,7 +354,7 @@ def test_machine(room):
         with DebugMachine(CART, program=room.program) as fresh:
             # the demo has a battery, and its game opened RAM
             expect('the power switch', (machine.memory(0xc000, 256), machine.picture().shades), (fresh.memory(0xc000, 256), fresh.picture().shades))
-            expect('what a battery keeps', (machine.state()[22_607:], fresh.state()[22_607:] != moved[22_607:]), (moved[22_607:], True))
+            expect('what a battery keeps', (machine.state()[22_647:], fresh.state()[22_647:] != moved[22_647:]), (moved[22_647:], True))
         for _ in range(20_000):
             machine.frame(A)
         machine.settle()

@@ -1,4 +1,5 @@
 """A folder with the program, for one test: it runs commands there, and compares what they print with what a test wants, to the last byte."""
+import hashlib
 import subprocess
 from pathlib import Path
 
@@ -43,6 +44,10 @@ class Room:
         for address, byte in header.items():
             rom[address] = byte
         self.write(name, bytes(rom))
+
+    def header(self, name):
+        """What a state of the ROM in a file begins with."""
+        return b'GBSTATE1' + hashlib.sha256((self.folder / name).read_bytes()).digest()
 
     def size(self, name):
         """How many bytes a file has; None where there is no such file."""

@@ -1,4 +1,5 @@
 """Registers and listings, games and scripts, streams, recordings, battery files, debuggers, traces, and what words the program understands."""
+import hashlib
 import os
 import resource
 import subprocess
@@ -211,10 +212,10 @@ def test_states_go_through_a_stream(room):
     room.expect('the answers', (told[:len(head)], told[-8:]), (head, b'saved 7\n'))
     state = told[len(head):-8]
     line, state = state[:state.index(b'\n')], state[state.index(b'\n') + 1:]
-    room.expect('the line of the state', line, b'state %d' % len(state))
+    room.expect('the state', (line, len(state), state[:48]), (b'state 22647', 22_647, room.header('states.gb') + b'GBSNAP01'))
     given = b'frame 00\nrestore %d\n' % len(state) + state + b'state\n'
     room.expect('the state that was taken', room.printed('stream states.gb states.gbkeep', given), b'resumed 7\nrestored\n' + line + b'\n' + state + b'saved 9\n')
-    other = bytes([state[0] ^ 1]) + state[1:]
+    other = state[:40] + bytes([state[40] ^ 1]) + state[41:]
     room.refused('stream states.gb states.gbkeep', 'gbkeep: damaged snapshot\n', given=b'frame 00\nrestore %d\n' % len(state) + other, out='resumed 9\nsaved 10\n')
     room.refused('stream states.gb states.gbkeep', 'gbkeep: damaged snapshot\n', given=b'restore %d\n' % len(state) + state[:-1], out='resumed 10\n')
     room.refused('stream states.gb states.gbkeep', 'gbkeep: script line 2\n', given='frame 00\nback 1\n', out='resumed 10\nsaved 11\n')
@@ -222,6 +223,73 @@ def test_states_go_through_a_stream(room):
     room.done('new-recording states.gb states.rec 20', 'begun 0\n')
     room.done('new states.gb recorded.gbkeep 156', 'begun 0\n')
     room.refused('record states.gb recorded.gbkeep states.rec', 'gbkeep: script line 2\n', given='frame 00\npower\n', out='resumed 0\nsaved 1\n')
+    room.refused('record states.gb recorded.gbkeep states.rec', 'gbkeep: script line 2\n', given=b'frame 00\nrestore 22647\n' + state, out='resumed 1\nsaved 2\n')
+
+
+def test_a_state_names_its_rom(room):
+    """It is 40 bytes, which are those of its ROM, and the snapshot, whose digest is told: by a stream, by a recorded game and by a debugger."""
+    for kind, code, length in ((0x00, 0, 22_647), (0x06, 0, 23_159), (0x03, 2, 30_839), (0x10, 3, 55_415), (0x1b, 5, 88_183), (0x1b, 4, 153_719)):
+        room.rom('named.gb', COUNTS, {0x147: kind, 0x149: code, 0x14f: code})
+        for name in ('named.gbkeep', 'reel.gbkeep', 'reel.rec', 'reel.gbkeep.recorded'):
+            (room.folder / name).unlink(missing_ok=True)
+        room.done('new named.gb named.gbkeep', 'begun 0\n')
+        room.done('new named.gb reel.gbkeep', 'begun 0\n')
+        room.done('new-recording named.gb reel.rec 2', 'begun 0\n')
+        debugged = room.printed('debug named.gb', 'frames 01 3\ndigest\nstate\n').removeprefix(b'done\n')
+        digest, line, state = debugged.split(b'\n', 2)
+        room.expect(f'a state of {length} bytes', (line, len(state), state[:48]), (b'state %d' % length, length, room.header('named.gb') + b'GBSNAP01'))
+        room.expect('its digest', digest, b'digest ' + hashlib.sha256(state[40:]).hexdigest().encode())
+        for words in ('stream named.gb named.gbkeep', 'record named.gb reel.gbkeep reel.rec'):
+            room.expect(words, room.printed(words, 'frames 01 3\nstate\n'), b'resumed 0\n' + line + b'\n' + state + b'saved 3\n')
+        for name in ('named.gbkeep', 'reel.gbkeep'):
+            room.expect(f'what is shown of {name}', room.printed(f'show named.gb {name}').split(b'\n')[5], digest.replace(b'digest', b'state'))
+
+
+def test_a_state_of_another_rom_is_refused(room):
+    """By a stream, which saves what was given before, and by a debugger, which goes on: of a ROM that differs in one byte, and of any length. A snapshot
+    without a header is damaged, and so is what ends before all its bytes were there."""
+    room.rom('mine.gb', COUNTS, {0x147: 0x03, 0x149: 2})
+    # counts down
+    room.rom('theirs.gb', '2b 18fd', {0x147: 0x03, 0x149: 2})
+    room.rom('longer.gb', COUNTS, {0x147: 0x03, 0x149: 3})
+    room.rom('shorter.gb', COUNTS)
+    mine, theirs = (room.read(f'{name}.gb') for name in ('mine', 'theirs'))
+    room.expect('where the two ROMs differ', [at for at, both in enumerate(zip(mine, theirs)) if both[0] != both[1]], [0x100])
+    own, other, longer, shorter = (room.printed(f'debug {name}.gb', 'frames 00 3\nstate\n').split(b'\n', 2)[2] for name in ('mine', 'theirs', 'longer', 'shorter'))
+    room.expect('their lengths', (len(own), len(other), len(longer), len(shorter)), (30_839, 30_839, 55_415, 22_647))
+    header, damaged, of_another = own[:40], 'damaged snapshot', 'other cartridge'
+    given = [('the state of the other ROM', other, of_another), ('a longer one', longer, of_another), ('a shorter one', shorter, of_another),
+             ('one with a byte more', other + b'\0', of_another), ('one with a byte less', other[:-1], of_another), ('its header alone', other[:40], of_another),
+             ('its header and one byte', other[:40] + b'\n', of_another), ('its header before this snapshot', other[:40] + own[40:], of_another),
+             ('its header before as much as there can be', other[:40] + bytes((1 << 20) - 40), of_another),
+             ('a snapshot of this ROM', own[40:], damaged), ('a snapshot of the other ROM', other[40:], damaged), ('two headers', header + own, damaged),
+             ('this header alone', header, damaged), ('this header and one byte', header + b'\n', damaged), ('a byte less', own[:-1], damaged),
+             ('a byte more', own + b'\0', damaged), ('this header before a longer snapshot', header + longer[40:], damaged),
+             ('a field that is not legal', own[:60] + b'\xff' + own[61:], damaged), ('zeros', bytes(len(own)), damaged)]
+    given += [(f'{size} bytes of this header', own[:size], damaged) for size in range(1, 40)]
+    given += [(f'{size} bytes of the other header', other[:size], damaged) for size in (1, 8, 39)]
+    given += [(f'another byte {at}', own[:at] + bytes([own[at] ^ 1]) + own[at + 1:], damaged if at < 8 else of_another) for at in range(40)]
+    # as many bytes are asked for as a state has, and the input ends before
+    ends = [(f'{size} bytes of {what} state, and the end', one[:size]) for what, one in (('this', own), ('the other', other)) for size in (0, 1, 8, 39, 40, 41, 30_838)]
+    room.done('new mine.gb mine.gbkeep', 'begun 0\n')
+    image = room.read('mine.gbkeep')
+    room.done('stream mine.gb mine.gbkeep', 'resumed 0\nsaved 2\n', 'frames 01 2\n')
+    played = room.read('mine.gbkeep')
+    for what, data, fault in [*((what, b'restore %d\n' % len(data) + data + b'frame 02\n', fault) for what, data, fault in given),
+                              *((what, b'restore 30839\n' + data, damaged) for what, data in ends)]:
+        room.write('mine.gbkeep', image)
+        told = room.run('stream mine.gb mine.gbkeep', b'frames 01 2\n' + data)
+        room.expect(f'{what}: by a stream', (*told, room.read('mine.gbkeep') == played), (1, b'resumed 0\nsaved 2\n', f'gbkeep: {fault}\n'.encode(), True))
+    told = room.printed('debug mine.gb mine.gbkeep', b'digest\n' + b''.join(b'restore %d\n' % len(data) + data + b'digest\n' for _, data, _ in given)).splitlines()
+    digest = room.printed('debug mine.gb', 'frames 01 2\ndigest\n').splitlines()[1]
+    room.expect('the game', told[:2], [b'resumed 2', digest])
+    for number, (what, _, _) in enumerate(given):
+        room.expect(f'{what}: by a debugger', told[2 + 2 * number:4 + 2 * number], [b'wrong %d' % (2 + 2 * number), digest])
+    for what, data in ends:
+        room.expect(f'{what}: by a debugger', room.printed('debug mine.gb', b'frames 01 2\ndigest\nrestore 30839\n' + data), b'done\n' + digest + b'\nwrong 3\n')
+    # each is taken where it belongs
+    for name, state in (('mine', own), ('theirs', other), ('longer', longer), ('shorter', shorter)):
+        room.expect(f'of {name}', room.printed(f'debug {name}.gb', b'restore %d\n' % len(state) + state + b'state\n'), b'restored\nstate %d\n' % len(state) + state)
 
 
 def test_the_greatest_count_takes_no_state(room):
@@ -603,26 +671,27 @@ def test_a_state_is_given_back(room):
     room.rom('state.gb', SENDS, {0x147: 0x10, 0x149: 2})
     room.rom('state.other.gb', COUNTS)
     told = room.printed('debug state.gb', 'frames 01 2\nseconds 61\nstate\nframes 80 3\nhistory 9\ndigest\n')
-    head, size = b'done\ndone\nstate 30799\n', 30_799
+    head, size, ram = b'done\ndone\nstate 30839\n', 30_839, 8_192
     state, rest = told[len(head):len(head) + size], told[len(head) + size:]
     room.expect('how a state is told', (told[:len(head)], len(rest)), (head, len(b'done\nhistory 0\n') + 72))
-    given = b'restore 30799\n' + state
+    given = b'restore 30839\n' + state
     room.expect('what follows a state', room.printed('debug state.gb', given + b'frames 80 3\nhistory 9\ndigest\n'), b'restored\n' + rest)
     # the history is empty then, and what was sent before is told still
     room.done('debug state.gb', 'done\nrestored\nhistory 0\nserial 1\nA\nserial 0\n\n', b'frames 00 2\n' + given + b'history 9\nserial\nserial\n')
     # the last bytes of a state are of RAM, and may be newlines; the line behind them is the next one
-    lines = given[:22607 - size] + (size - 22607) * b'\n'
-    room.expect('a state that ends in newlines', room.printed('debug state.gb', lines + b'state\nwrong'), b'restored\nstate 30799\n' + lines[14:] + b'wrong 3\n')
+    lines = given[:-ram] + ram * b'\n'
+    room.expect('a state that ends in newlines', room.printed('debug state.gb', lines + b'state\nwrong'), b'restored\nstate 30839\n' + lines[14:] + b'wrong 3\n')
     digest = room.printed('debug state.gb', 'digest\n')
-    for what, bad, lines in (('a byte of the magic', b'X' + state[1:], 1), ('a register that is not legal', state[:20] + b'\xff' + state[21:], 1),
-                             ('a byte that is unused', state[:100] + b'\1' + state[101:], 1), ('fewer bytes', state[:-1], 1), ('more bytes', state + b'\0', 1), ('one byte', b'\n', 1)):
+    for what, bad, lines in (('a byte of the mark', b'X' + state[1:], 1), ('a byte of the magic', state[:40] + b'X' + state[41:], 1),
+                             ('a register that is not legal', state[:60] + b'\xff' + state[61:], 1), ('a byte that is unused', state[:140] + b'\1' + state[141:], 1),
+                             ('fewer bytes', state[:-1], 1), ('more bytes', state + b'\0', 1), ('one byte', b'\n', 1)):
         room.expect(what, room.printed('debug state.gb', b'restore %d\n' % len(bad) + bad + b'digest\n'), b'wrong 1\n' + digest)
     room.expect('a state of another cartridge', room.printed('debug state.other.gb', given + b'registers\n')[:8], b'wrong 1\n')
     room.expect('the end within the bytes', room.printed('debug state.gb', given[:-1]), b'wrong 1\n')
-    room.expect('the end behind the line', room.printed('debug state.gb', 'digest\nrestore 30799'), digest + b'wrong 2\n')
+    room.expect('the end behind the line', room.printed('debug state.gb', 'digest\nrestore 30839'), digest + b'wrong 2\n')
     room.done('debug state.gb', 'wrong 1\nwrong 2\nwrong 3\nwrong 4\nwrong 5\nwrong 6\n', 'restore\nrestore 0\nrestore 1048577\nrestore x\nrestore 1 1\nrestore 4294967297\n')
     room.rom('state.2.gb', SENDS, {0x147: 0x10, 0x149: 2, 0x14f: 1})
-    room.expect('of a changed ROM it is a state', room.printed('debug state.2.gb', given + b'registers\n')[:9], b'restored\n')
+    room.expect('a state of a ROM that was changed', room.printed('debug state.2.gb', given + b'digest\n'), b'wrong 1\n' + digest)
 
 
 def test_states_are_kept(room):

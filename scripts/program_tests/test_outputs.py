@@ -18,6 +18,9 @@ MOST = 1 << 20
 REPORT = b'resumed 5\nsaved 6\nsaved 8\nsaved 9\n'
 TRACE = b'resumed 0\n0100 18FE   JR -02\n0100 18FE   JR -02\n'
 
+# what a state of a ROM begins with that nobody has
+OF_ANOTHER = b'GBSTATE1' + bytes(32)
+
 LINES = b'''\
 step 2
 registers
@@ -218,6 +221,10 @@ def test_lines_of_a_stream_are_answered_or_refused(room):
             (b'frame 01\nrestore 3\nabcframe 02\n', False, damaged, 'resumed 2\nsaved 3\n'),
             (b'frame 01\nrestore 30000\nabc', False, damaged, 'resumed 2\nsaved 3\n'),
             (b'frame 01\nrestore 30000\nabc', True, failed, 'resumed 2\nsaved 3\n'),
+            (b'frame 01\nrestore 40\n' + OF_ANOTHER + b'frame 02\n', False, 'other cartridge', 'resumed 2\nsaved 3\n'),
+            (b'frame 01\nrestore 41\n' + OF_ANOTHER, False, damaged, 'resumed 2\nsaved 3\n'),
+            (b'frame 01\nrestore 41\n' + OF_ANOTHER, True, failed, 'resumed 2\nsaved 3\n'),
+            (b'frame 01\nrestore 40\n' + OF_ANOTHER[:39], True, failed, 'resumed 2\nsaved 3\n'),
             (b'frame 01\nrestore 1048577\nabc', False, 'script line 2', 'resumed 2\nsaved 3\n'),
             (b'memory 134 3\nmemory FFFF 2\nmemory 0\n', False, 'script line 3', 'resumed 2\n0134 41 00 00\nFFFF 00 00\n')):
         wanted = (1 if fault else 0, text.encode(), f'gbkeep: {fault}\n'.encode() if fault else b'')

@@ -10,9 +10,9 @@ script of frames and seconds, trace of 1,024 steps, line by line; 200 of them at
 tiles and objects that change within frames, by buttons and the clock; after each of some scripts of frames, buttons and seconds the whole
 picture of `frame`), features (the same over longer scripts, then `trace`, on programs of feature_roms.py, which use every unusual feature of the
 machine again and again), waits (the same on programs of waiting_roms.py, which wait in loops), debug (lines of `debug` on random programs, on programs
-that draw and on those of feature_roms.py: steps, places, opcodes, frames, seconds, registers, histories, listings, memory, what is sent, pictures and
-digests of the whole machine), tests (`test` of programs that send words and come to an end in many ways and places, with scripts and without). The status
-is 1 where anything differs."""
+that draw and on those of feature_roms.py: steps, places, opcodes, frames, seconds, registers, histories, listings, memory, what is sent, pictures,
+states of the ROM and of others, and digests of the whole machine), tests (`test` of programs that send words and come to an end in many ways and places,
+with scripts and without). The status is 1 where anything differs."""
 import os, random, shutil, subprocess, sys, tempfile, time
 from scripts.second_machine import debug_lines, feature_roms, reference as ref, test_lines, waiting_roms
 
@@ -1021,13 +1021,14 @@ def compare_debug(kind, seed, rom, rnd):
     """Lines of a debugger, most of them right, and a digest of the machine behind each that may change it."""
     with open(TMP, 'wb') as f: f.write(rom)
     stats['roms'] += 1
-    text, debugger, want, states = b'', debug_lines.Debugger(ref.Machine(rom)), [], [b'x', b'GBSNAP01']
+    text, debugger, want = b'', debug_lines.Debugger(ref.Machine(rom)), []
+    own, others = ([debug_lines.state(ref.Machine(one)) for one in roms] for roms in ([rom], [debug_lines.changed(rnd, rom), debug_rom(rnd)]))
     for line, given in debug_lines.lines_of(debug_lines.random_lines(rnd, rnd.randrange(5, 25), rnd.choice([30, 1000, 3000]), 0.1, debug_lines.seen_in(rom, 500))):
-        for one in [line + b'\n' + given] + [b'digest\n'] * (rnd.random() < 0.4) + [b'state\n'] * (rnd.random() < 0.1) + [debug_lines.a_restore(rnd, states)] * (rnd.random() < 0.1):
+        for one in [line + b'\n' + given] + [b'digest\n'] * (rnd.random() < 0.4) + [b'state\n'] * (rnd.random() < 0.1) + [debug_lines.a_restore(rnd, own, others)] * (rnd.random() < 0.2):
             text += one
             for line, given in debug_lines.lines_of(one):
                 want.append(debugger.answer(line, given, len(want) + 1))
-                if want[-1].startswith(b'state '): states.append(want[-1].split(b'\n', 1)[1])
+                if want[-1].startswith(b'state '): own.append(want[-1].split(b'\n', 1)[1])
     for (line, _), answer in zip(debug_lines.lines_of(text), want):
         name = 'wrong' if answer.startswith(b'wrong') else answer.split()[0].decode() if answer[:4] in (b'stop', b'limi') else line.split(b' ')[0].decode()
         if name == 'serial' and not answer.startswith(b'serial 0'): name = 'sent'

@@ -64,6 +64,9 @@ FORMS = [(re.compile(form), name, readers) for form, name, readers in (
     (rb'digest', 'digest', ()))]
 RESTORE = re.compile(rb'restore ' + COUNT)
 MOST_GIVEN = 1048576
+# the first bytes of a state, and how many stand in front of its snapshot: these, and the SHA-256 of the ROM
+MARK, HEADER = b'GBSTATE1', 40
+DAMAGED, OTHER = 'damaged snapshot', 'other cartridge'
 # the cartridge types whose RAM and clock a battery keeps
 BATTERIES = (0x03, 0x06, 0x09, 0x0F, 0x10, 0x13, 0x1B, 0x1E)
 
@@ -120,11 +123,22 @@ def snapshot(m):
     return bytes(data) + bytes(m.vram) + bytes(m.wram) + bytes(m.oam) + bytes(m.hram) + bytes(m.sound) + bytes(picture) + bytes(m.cram)
 
 
-def restored(m, data):
-    """Makes the machine the one of a snapshot of its cartridge, by the same table. Answers whether it is one."""
-    cart = save_files.Cartridge(m.rom)
-    if not save_files.is_legal(data, cart):
-        return False
+def header(rom):
+    """What a state of this ROM begins with."""
+    return MARK + hashlib.sha256(rom).digest()
+
+
+def state(m):
+    """The machine as a state, by docs/SNAPSHOT.md: its snapshot behind the header of its ROM."""
+    return header(m.rom) + snapshot(m)
+
+
+def why_refused(m, given):
+    """Makes the machine the one of a state, by the same page. Answers why these bytes are none of its ROM; None where they are one."""
+    data = given[HEADER:]
+    if len(given) < HEADER or given[:8] != MARK: return DAMAGED
+    if given[:HEADER] != header(m.rom): return OTHER
+    if not save_files.is_legal(data, save_files.Cartridge(m.rom)): return DAMAGED
 
     def word(at): return data[at] | data[at + 1] << 8
 
@@ -149,7 +163,7 @@ def restored(m, data):
         at += len(store)
     m.shades = [[data[at + 40 * y + x // 4] >> 6 - x % 4 * 2 & 3 for x in range(160)] for y in range(144)]
     m.cram[:] = data[at + 5760:]
-    return True
+    return None
 
 
 def values_of(m, but=('sent',)):
@@ -332,12 +346,12 @@ class Debugger:
             self.history.clear()
             return 'back %d\n' % words[0]
         if name == 'state':
-            data = snapshot(m)
+            data = state(m)
             return b'state %d\n' % len(data) + data
         return 'digest %s\n' % hashlib.sha256(snapshot(m)).hexdigest()
 
     def restore(self, given, count):
-        if len(given) != count or not restored(self.m, given):
+        if len(given) != count or why_refused(self.m, given):
             return None
         self.history.clear()
         return 'restored\n'
@@ -438,14 +452,53 @@ def a_line(rnd, most, seen):
     return rnd.choice(['registers', 'serial', 'digest', 'digest'] + ['picture', 'state'] * (rnd.random() < 0.2))
 
 
-def a_restore(rnd, states):
-    """A state that was told before, whole or spoilt."""
-    state = bytearray(rnd.choice(states))
-    chance = rnd.random()
-    if chance < 0.3: state[rnd.choice([rnd.randrange(len(state)), rnd.randrange(min(len(state), 130))])] = rnd.randrange(256)
-    elif chance < 0.4: state = state[:rnd.randrange(1, len(state) + 1)]
-    elif chance < 0.5: state += rnd.randbytes(rnd.choice([1, 512]))
-    return b'restore %d\n' % len(state) + state + rnd.choice([b'', b'\n'])
+# what a `restore` may be given, and what a stream answers to it: None where it goes on
+GIVEN = {'own': {None}, 'field': {None, DAMAGED}, 'mark': {DAMAGED}, 'digest': {OTHER}, 'bare': {DAMAGED}, 'header': {DAMAGED}, 'short header': {DAMAGED},
+         'cut': {DAMAGED}, 'longer': {DAMAGED}, 'other': {OTHER}, 'other header': {OTHER}, 'other length': {OTHER}, 'own header': {None, DAMAGED}}
+
+
+def given_as(rnd, kind, own, others):
+    """Bytes of a kind, of the states of a machine and of machines with another ROM: a state, one with a bit of its header or behind it turned, a part
+    of one, one with more behind it, or the header of one with the snapshot of another one."""
+    state, other = rnd.choice(own), rnd.choice(others)
+    if kind == 'field': return turned(rnd, state, HEADER + rnd.choice([rnd.randrange(len(state) - HEADER), rnd.randrange(128), rnd.randrange(128)]))
+    if kind == 'mark': return turned(rnd, state, rnd.randrange(8))
+    if kind == 'digest': return turned(rnd, state, rnd.randrange(8, HEADER))
+    if kind == 'bare': return state[HEADER:]
+    if kind == 'header': return state[:HEADER]
+    if kind == 'short header': return state[:rnd.randrange(1, HEADER)]
+    if kind == 'cut': return state[:rnd.randrange(HEADER + 1, len(state))]
+    if kind == 'longer': return state + rnd.randbytes(rnd.choice([1, 512]))
+    if kind == 'other': return other
+    if kind == 'other header': return other[:HEADER] + state[HEADER:]
+    if kind == 'other length': return rnd.choice([other[:HEADER], other[:rnd.randrange(HEADER, len(other))], other + rnd.randbytes(rnd.choice([1, 512, 8192]))])
+    if kind == 'own header': return state[:HEADER] + other[HEADER:]
+    return state
+
+
+def turned(rnd, data, at):
+    """The same bytes with a bit turned in one of them."""
+    return data[:at] + bytes([data[at] ^ 1 << rnd.randrange(8)]) + data[at + 1:]
+
+
+def changed(rnd, rom):
+    """A ROM that differs in one bit of its code: it has the same header, and so the same controller and RAM."""
+    return turned(rnd, bytes(rom), rnd.choice([rnd.randrange(0x100, 0x104), rnd.randrange(0x150, len(rom))]))
+
+
+def a_restore(rnd, own, others, kind=None):
+    """A `restore` with its bytes, half of them states of the machine's own ROM where no kind is named."""
+    given = given_as(rnd, kind or rnd.choice(['own', rnd.choice(list(GIVEN))]), own, others)
+    return b'restore %d\n' % len(given) + given
+
+
+def miscounted(rnd, own, others):
+    """A `restore` whose number is none, or not that of its bytes: some of them are lines then, or what follows is taken for bytes."""
+    given = given_as(rnd, rnd.choice(list(GIVEN)), own, others)
+    count = len(given) + rnd.choice([-HEADER, -8, -1, 1, 8, HEADER])
+    if count < 1 or rnd.random() < 0.5:
+        return b'restore ' + rnd.choice([b'0', b'1048577', b'4294967295', b'99999999999999999999', b'-1', b'x', b'', b'22647 ', b'2 2']) + b'\n'
+    return b'restore %d\n' % count + given
 
 
 def random_lines(rnd, count, most, wrong, seen):
@@ -470,8 +523,25 @@ def spoilt(rnd, line):
     return rnd.choice([shorter, other, before + b' ' + byte + after, line + b'\r', before, line.upper(), line.replace(b' ', b'\t')])
 
 
+def check_states(rnd, rom):
+    """Each kind of bytes has the answers that it is listed with, and no others; a machine that refuses some is as it was."""
+    machine, other = ref.Machine(rom), bytearray(rom)
+    other[0x147], other[0x149] = 0x13, rnd.choice([code for code in ref.RAMS if code != rom[0x149]])
+    own, others = [state(machine)], [state(ref.Machine(one)) for one in (changed(rnd, rom), changed(rnd, rom), other)]
+    machine.r[0] ^= 0xFF
+    own.append(state(machine))
+    for kind, wanted in GIVEN.items():
+        found = set()
+        for _ in range(40):
+            before, given = snapshot(machine), given_as(rnd, kind, own, others)
+            why = why_refused(machine, given)
+            if snapshot(machine) != (before if why else given[HEADER:]): sys.exit('%s, %s: another machine' % (kind, why))
+            found.add(why)
+        if found != wanted: sys.exit('a restore of the kind %s: %r' % (kind, found))
+
+
 def check():
-    """A reader by words beside the one by forms, on many lines; seconds one by one beside all at once."""
+    """A reader by words beside the one by forms, on many lines; seconds one by one beside all at once; states of each kind."""
     def by_words(line):
         if len(line) > 128 or not line: return None
         words = line.split(b' ')
@@ -536,7 +606,8 @@ def check():
         if one.live != other.live: sys.exit('%d seconds from %r: %r and %r' % (count, start, one.live, other.live))
     for code in (0, 2, 3, 4, 5):
         rom[0x149] = code
-        if len(snapshot(ref.Machine(rom))) != 22607 + 1024 * ref.RAMS[code]: sys.exit('a snapshot has another length')
+        if len(state(ref.Machine(rom))) != 40 + 22607 + 1024 * ref.RAMS[code]: sys.exit('a state has another length')
+        check_states(rnd, bytes(rom))
     print('lines: %s' % ', '.join('%d %s' % (many, name) for name, many in seen.most_common()))
 
 

@@ -11,7 +11,7 @@ import time
 from pathlib import Path
 
 from examples.speed import build as speed
-from scripts.second_machine import feature_roms, waiting_roms
+from scripts.second_machine import debug_lines, feature_roms, waiting_roms
 
 # the frames between two digests, and how many such blocks a ROM has
 BLOCK, BLOCKS = 120, 25
@@ -38,7 +38,7 @@ def digests_of_a_stream(program, rom, blocks, folder):
         word, _, number = told[at:end].partition(b' ')
         at = end + 1
         if word == b'state':
-            found.append(hashlib.sha256(told[at:at + int(number)]).hexdigest())
+            found.append(hashlib.sha256(told[at + debug_lines.HEADER:at + int(number)]).hexdigest())
             at += int(number)
     return found
 

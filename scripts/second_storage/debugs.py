@@ -114,7 +114,7 @@ def over_a_game(rnd, seed, rom, cart):
     image = get(SAVE)
     game = Game(image, cart)
     game.resume()
-    state = hashlib.sha256(debug_lines.snapshot(machine)).hexdigest()
+    digest = hashlib.sha256(debug_lines.snapshot(machine)).hexdigest()
     text = lines_for(rnd, rom, 1000)
     want = game.report + b''.join(debug_lines.Debugger(machine).answers(text))
     good = is_as(seed, 'over a game, %r' % script, given(rnd, ['debug', CART, SAVE], text), (0, want, b''))
@@ -125,9 +125,9 @@ def over_a_game(rnd, seed, rom, cart):
     gbkeep('trace', CART, SAVE, '9')
     good = is_as(seed, 'SAVE beside the one that a trace leaves', get(SAVE), left) and good
     shown = gbkeep('show', CART, SAVE)[1].decode().split('\n')
-    good = is_as(seed, 'the game after it', (shown[0], shown[5:]), ('inputs %d' % game.count, ['state ' + state, ''])) and good
+    good = is_as(seed, 'the game after it', (shown[0], shown[5:]), ('inputs %d' % game.count, ['state ' + digest, ''])) and good
     again = gbkeep('debug', CART, SAVE, input=b'digest')
-    if is_as(seed, 'the game again', again, (0, game.report + b'digest %s\n' % state.encode(), b'')) and good:
+    if is_as(seed, 'the game again', again, (0, game.report + b'digest %s\n' % digest.encode(), b'')) and good:
         return image, game.count, script
 
 
@@ -157,24 +157,19 @@ def from_power_on(rnd, seed, rom, text):
 
 
 def with_states(rnd, rom, other):
-    """Lines with states: of this machine, whole, cut, longer, and with a byte that is another, mostly among those that may be illegal; of another
-    cartridge; with a count that is none, or that is not theirs; and the last one may be cut off by the end of the input."""
+    """Lines with bytes of each kind that debug_lines.py has, more of them with a bit of a state turned than of the others: of this machine, of one whose
+    ROM differs in one bit, and of another cartridge; with a count that is none, or that is not theirs; and the last one may be cut off by the end of the
+    input."""
     text, states = b'', []
-    for image in (rom, other):
+    for image in (rom, debug_lines.changed(rnd, rom), other):
         machine = reference.Machine(image)
         for _ in range(rnd.randrange(300)): machine.step()
-        states.append(debug_lines.snapshot(machine))
-    own, foreign = states
-    for _ in range(20):
-        state, chance = bytearray(own), rnd.randrange(12)
-        count = b'%d' % len(state)
-        if chance < 6: state[rnd.choice([rnd.randrange(len(state)), rnd.randrange(128), rnd.randrange(128)])] ^= 1 << rnd.randrange(8)
-        elif chance == 6: state, count = bytearray(foreign), b'%d' % len(foreign)
-        elif chance == 7: state = state[:rnd.randrange(1, len(state))]
-        elif chance == 8: state += rnd.randbytes(rnd.choice([1, 512]))
-        elif chance == 9: state, count = bytearray(), rnd.choice([b'0', b'1048577', b'4294967295', b'99999999999999999999', b'-1', b'x', b'', b'22607 ', b'2 2'])
-        if chance in (7, 8): count = b'%d' % len(state)
-        text += b'restore ' + count + b'\n' + bytes(state) + rnd.choice([b'', b'\n', b'registers\n', b'digest\n', b'digest\n'])
+        states.append(debug_lines.state(machine))
+    own, others = states[:1], states[1:]
+    kinds = [*debug_lines.GIVEN, None, None] + ['field'] * 6
+    for kind in rnd.sample(kinds, len(kinds)):
+        text += debug_lines.a_restore(rnd, own, others, kind) if kind else debug_lines.miscounted(rnd, own, others)
+        text += rnd.choice([b'', b'\n', b'registers\n', b'digest\n', b'digest\n'])
     return text[:-rnd.randrange(1, 2000)] if rnd.random() < 0.5 else text
 
 

@@ -9,7 +9,7 @@ save file and script), kills (a play is killed at a random moment, and taken up 
 holds), places (no plain file, no room or no leave where one is wanted), pipes (an output that nobody reads to its end, or that has no
 room), shrinks (a save file that another process cuts, removes or replaces while it is played), names (OUT is SAVE or CART by another name, or another
 file that is no picture; a SAVE with the name of a battery file), closed (a standard
-stream is closed, also in a root without /dev), streams (lines as they come, whole, in pieces, wrong ones, pictures, and a kill), states (streams with snapshots, byte for byte, by a second machine), injected (a
+stream is closed, also in a root without /dev), streams (lines as they come, whole, in pieces, wrong ones, pictures, and a kill), states (streams with states of the ROM and of others, byte for byte, by a second machine), injected (a
 system call fails, is cut short, or is the last; needs strace), recordings (a game with its recording, damaged, full, of another ROM, ahead, behind,
 killed), batteries (battery files that are taken and written, and what `show` prints), debugs (lines of `debug`, right and wrong, from power-on and over
 games, sound and damaged), hosts (a host that plays by libgbkeep, with its disk cut behind each call that it was handed out; needs bin/libgbkeep.so, or the

@@ -3,7 +3,8 @@ calls that it was handed out, with any of the writes since the last sync.
 
 What is left stands for at least what was told as saved, and for no more than was given: by the second reader behind each call, and by the program and by
 the library, which take it up, behind some of them. The machine is the one that so many inputs lead to. A cut, or the end of a life, is where the next
-life begins, by the library or after a play of the program."""
+life begins, by the library or after a play of the program. Bytes of each kind that debug_lines.py has are given as a state, and those that are refused
+change nothing."""
 import hashlib, os
 from gbkeep import save_files as ref
 from batteries import WITH_BATTERY, battery_of, random_battery, taken
@@ -11,6 +12,8 @@ from hostile import CART, ROOM, SAVE, SCRIPT, differs, gbkeep, random_rom
 from gbkeep.save_files import SECTOR, get, put
 from gbkeep import library
 from scripts.not_tried import note
+from scripts.second_machine import debug_lines
+from scripts.second_machine.debug_lines import HEADER
 
 EXPORTED = os.path.join(ROOM, 'exported.sav')
 
@@ -96,7 +99,7 @@ class Host:
         battery = random_battery(rnd, cart) if rnd.random() < 0.5 else None
         if battery is not None:
             try:
-                first = taken(first, battery, cart, rom[0x147])
+                first = first[:HEADER] + taken(first[HEADER:], battery, cart, rom[0x147])
             except ref.Refused as why:
                 try:
                     library.Session(rom, battery=battery, sectors=sectors).close()
@@ -142,6 +145,22 @@ class Host:
                 self.give('restore', self.inputs.state(rnd.choice(sorted(self.inputs.marks))))
                 left -= 1
 
+    def give_states(self):
+        """Bytes of each kind as a state: one that is the game's is an input, and any other is refused, with nothing changed."""
+        own, others = [self.inputs.state(mark) for mark in self.inputs.marks], []
+        for rom in (debug_lines.changed(self.rnd, self.rom), random_rom(self.rnd)):
+            with library.Machine(rom) as machine:
+                others.append(machine.state())
+        for kind in debug_lines.GIVEN:
+            given, before = debug_lines.given_as(self.rnd, kind, own, others), (self.session.state(), self.session.count)
+            try:
+                self.session.restore(given)
+            except library.NoState as refused:
+                want('%s: %s' % (kind, refused.line), refused.line in debug_lines.GIVEN[kind] and (self.session.state(), self.session.count) == before)
+            else:
+                want('%s is taken' % kind, None in debug_lines.GIVEN[kind] and (self.session.state(), self.session.count) == (given, before[1] + 1))
+                self.inputs.given.append(('restore', (given,)))
+
     def save(self):
         """Saves, and tells it once all calls were made."""
         count = self.session.save()
@@ -178,7 +197,7 @@ class Host:
         want('play: %r, wanted %d' % (got, count), got == (0, b'resumed %d\n' % count, b''))
         state = self.inputs.state(count)
         shown = gbkeep('show', CART, SAVE)[1].decode().split('\n')
-        want('show: %r' % shown, shown[0] == 'inputs %d' % count and shown[-2] == 'state ' + hashlib.sha256(state).hexdigest())
+        want('show: %r' % shown, shown[0] == 'inputs %d' % count and shown[-2] == 'state ' + hashlib.sha256(state[HEADER:]).hexdigest())
         with library.Session(self.rom, bytes(image)) as session:
             want('the library takes up another game', (session.count, session.state()) == (count, state))
 
@@ -196,7 +215,7 @@ class Host:
                 return want('battery: %s' % refused.line, refused.line == 'no battery')
             raise Wrong('a cartridge without battery gives a file')
         want('export: %r' % (got,), got == (0, b'exported %d\n' % self.told, b''))
-        want('battery differs', self.session.battery() == get(EXPORTED) == battery_of(self.inputs.state(self.told), self.cart))
+        want('battery differs', self.session.battery() == get(EXPORTED) == battery_of(self.inputs.state(self.told)[HEADER:], self.cart))
 
     def life(self):
         """Plays for some saves, and leaves the disk as it is at the end, or as a cut left it."""
@@ -205,6 +224,9 @@ class Host:
             self.give_some()
             self.save()
             want('another machine', self.session.state() == self.inputs.state(self.told))
+        if rnd.random() < 0.5:
+            self.give_states()
+            self.save()
         self.battery()
         self.give_some()
         self.session.save()

@@ -1,7 +1,8 @@
 """The kind `states` of hostile.py: streams with states, whole and in pieces, over games that were played.
 
-Each line is read and answered by a second machine, byte for byte: snapshots, memory, pictures, and each byte of SAVE, which this kind knows whole. States
-are those of the same game, of another cartridge, cut, longer, and with a bit that is another."""
+Each line is read and answered by a second machine, byte for byte: states, memory, pictures, and each byte of SAVE, which this kind knows whole. Bytes of
+each kind that debug_lines.py has are given, in random streams, and then each in one of its own: states of the game, of a ROM that differs from its own in one
+bit, of another cartridge, snapshots without a header, and what is cut, longer, or has a bit turned."""
 import re
 import hostile
 from debugs import first_difference, given
@@ -46,20 +47,21 @@ class Stream:
         self.game.report += text if isinstance(text, bytes) else text.encode()
 
     def obey(self, line, data, asked):
-        """Does what a line asks for. Answers whether it is right; raises Refused at bytes that are no snapshot."""
+        """Does what a line asks for. Answers whether it is right; raises Refused at bytes that are no state of the ROM."""
         slot = re.fullmatch(rb'(keep|back) ([0-9]{1,10})', line)
         memory = re.fullmatch(rb'memory ([0-9A-Fa-f]{1,4}) ([0-9]{1,10})', line)
         if len(line) > MOST_LINE:
             return False
         if asked:
-            if len(data) != asked or not debug_lines.restored(self.m, data):
-                raise Refused('damaged snapshot')
+            why = debug_lines.DAMAGED if len(data) != asked else debug_lines.why_refused(self.m, data)
+            if why:
+                raise Refused(why)
             self.game.give(None)
             self.told(b'restored\n')
         elif line == b'picture':
             self.told(self.m.picture())
         elif line == b'state':
-            data = debug_lines.snapshot(self.m)
+            data = debug_lines.state(self.m)
             self.told(b'state %d\n' % len(data) + data)
         elif line == b'power':
             debug_lines.powered(self.m)
@@ -102,7 +104,7 @@ class Stream:
         return (1, b'gbkeep: %s\n' % fault.encode()) if fault else (0, b'')
 
 
-def lines_for(rnd, states):
+def lines_for(rnd, own, others):
     """Lines, most of them right, some with states."""
     text = b''
     for _ in range(rnd.choice([3, 8, 25])):
@@ -116,21 +118,40 @@ def lines_for(rnd, states):
         elif chance < 0.75:
             text += rnd.choice([b'state\n', b'picture\n', b'memory %04X %d\n' % (rnd.randrange(65536), rnd.choice([1, 16, 17, 300]))])
         elif chance < 0.97:
-            state = bytearray(rnd.choice(states))
-            count, damage = b'%d' % len(state), rnd.randrange(20)
-            if damage == 0: state[rnd.choice([rnd.randrange(len(state)), rnd.randrange(128)])] ^= 1 << rnd.randrange(8)
-            elif damage == 1: state = state[:rnd.randrange(1, len(state))]
-            elif damage == 2: state += rnd.randbytes(rnd.choice([1, 512]))
-            elif damage == 3: state, count = bytearray(), rnd.choice([b'0', b'1048577', b'-1', b'x', b'22607 '])
-            if damage in (1, 2): count = b'%d' % len(state)
-            text += b'restore ' + count + b'\n' + bytes(state)
+            wrong = rnd.random()
+            text += debug_lines.miscounted(rnd, own, others) if wrong < 0.05 else debug_lines.a_restore(rnd, own, others, None if wrong < 0.25 else 'own')
         else:
             text += rnd.choice([b'power 1\n', b'keep\n', b'keep 1000\n', b'state \n', b'memory 1 0\n', b'memory 10000 1\n', b'registers\n', b'restore\n'])
     return text[:-rnd.randrange(1, 3000)] if rnd.random() < 0.1 else text
 
 
+def taken(rnd, rom):
+    """A state of a machine with this ROM, some steps after power-on."""
+    machine = reference.Machine(rom)
+    for _ in range(rnd.randrange(300)):
+        machine.step()
+    return debug_lines.state(machine)
+
+
+def streamed(rnd, seed, text, game, machine):
+    """Gives SAVE a stream of these lines, and compares all that it answers and leaves. Answers whether they agree."""
+    game.resume()
+    status, err = Stream(game, machine).run(text)
+    want = (status, game.report, err)
+    got = given(rnd, ['stream', CART, SAVE], text)
+    left = get(SAVE)
+    if got != want:
+        differs('states', seed, '%r, %r: %s' % ((got[0], got[2]), (want[0], want[2]), first_difference(want[1], got[1])))
+    elif left != bytes(game.image):
+        differs('states', seed, 'SAVE is left with other bytes: %s' % first_difference(bytes(game.image), left))
+    else:
+        return True
+    put('differs.lines', text)
+    return False
+
+
 def states(rnd, seed):
-    rom, other = random_rom(rnd), random_rom(rnd)
+    rom = random_rom(rnd)
     cart = Cartridge(rom)
     put(CART, rom)
     hostile.new_game(rnd, rom, cart)
@@ -141,25 +162,13 @@ def states(rnd, seed):
     gbkeep('play', CART, SAVE, SCRIPT)
     for _ in range(first):
         machine.frame(1)
-    image = get(SAVE)
-    taken = []
-    for one in (rom, rom, other):
-        some = reference.Machine(one)
-        for _ in range(rnd.randrange(300)):
-            some.step()
-        taken.append(debug_lines.snapshot(some))
-    text = lines_for(rnd, taken[:2] if rnd.random() < 0.8 else taken)
-    game = KnownGame(image, cart, machine)
-    game.resume()
-    status, err = Stream(game, machine).run(text)
-    want = (status, game.report, err)
-    got = given(rnd, ['stream', CART, SAVE], text)
-    if got != want:
-        put('differs.lines', text)
-        return differs('states', seed, '%r, %r: %s' % ((got[0], got[2]), (want[0], want[2]), first_difference(want[1], got[1])))
-    left = get(SAVE)
-    if left != bytes(game.image):
-        put('differs.lines', text)
-        return differs('states', seed, 'SAVE is left with other bytes: %s' % first_difference(bytes(game.image), left))
-    if not hostile.compare_play('states', seed, left, cart, hostile.short_script(rnd), 'behind a stream with states'):
+    own, others = ([taken(rnd, one) for one in roms] for roms in ([rom, rom], [debug_lines.changed(rnd, rom), random_rom(rnd)]))
+    if not streamed(rnd, seed, lines_for(rnd, own, others), KnownGame(get(SAVE), cart, machine), machine):
+        return
+    # what was given before bytes that are refused is saved, and nothing behind them is done
+    for kind in debug_lines.GIVEN:
+        text = b'seconds %d\n' % rnd.choice([0, 1, 61]) + debug_lines.a_restore(rnd, own, others, kind) + b'seconds 2\n'
+        if not streamed(rnd, seed, text, KnownGame(get(SAVE), cart, machine), machine):
+            return
+    if not hostile.compare_play('states', seed, get(SAVE), cart, hostile.short_script(rnd), 'behind a stream with states'):
         put('differs.lines', text)
