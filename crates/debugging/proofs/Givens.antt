@@ -46,17 +46,15 @@ module _ (line : List ℕ) (size : ℕ) (old mid : Option (List ℕ)) (asks : re
   next_asked Snapshot rom snapshot new since (is, took) =
       let all : length (header_of rom ++ snapshot) ≡ size = omega (arith, is, length-append (header_of rom) snapshot, header_long rom) in
       (line, asks ∙ ap Some (sym all), takes_given asked line (header_of rom ++ snapshot) old mid new one (all ∙ sym by_some) took_line took)
-  next_asked Other rom snapshot new since all =
-      (
-        record { line = line; bytes = all.bytes },
-        inr (size, asks, inr (another_illegal rom all.bytes all.are)),
-        takes_given asked line all.bytes old mid new one (all.long ∙ sym by_some) took_line all.took,
-      )
+  next_asked Other rom snapshot new since all = (
+    record { line = line; bytes = all.bytes },
+    inr (size, asks, inr (another_illegal rom all.bytes all.are)),
+    takes_given asked line all.bytes old mid new one (all.long ∙ sym by_some) took_line all.took,
+  )
   next_asked Nothing rom snapshot new since all =
       (record { line = line; bytes = all.bytes }, inr (size, asks, inr all.are.0), takes_given asked line all.bytes old mid new one (all.long ∙ sym by_some) took_line all.took)
   next_asked FewerTaken rom snapshot new since (short, is_end) =
-      let few : length short.bytes ≢ size = λ e. absurd (omega (arith, e, short.few)) in
-      (
+      let few : length short.bytes ≢ size = λ e. absurd (omega (arith, e, short.few)) in (
         record { line = line; bytes = short.bytes },
         inr (size, asks, inl few),
         ends_within asked line short.bytes old mid since one (omega (arith, by_some, short.few)) took_line short.took is_end,

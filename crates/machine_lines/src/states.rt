@@ -34,11 +34,7 @@ pub fn write_state<W: Output>(
     write_parts(&header(cartridge), snapshot, out)
 }
 
-fn write_parts<W: Output>(
-    header: &[u8],
-    snapshot: &[u8],
-    out: &mut W,
-) -> Result<(), OutputFailed>
+fn write_parts<W: Output>(header: &[u8], snapshot: &[u8], out: &mut W) -> Result<(), OutputFailed>
     ensures ok { OnOk result
         (Appends (W.contents out.old) (W.contents out.new) (state_text (header.now ++ snapshot.now))) }
     ensures err { OnErr result

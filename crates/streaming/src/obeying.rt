@@ -325,7 +325,13 @@ fn obey_restore<G: Playable, R: LineInput, W: Output>(
     ensures room { length snapshot.new ≡ length snapshot.old }
 {
     match take_state(unread, input, size as usize, snapshot, cartridge) {
-        TakenState::Snapshot => match go_on_with(game, snapshot, cartridge, Order::Restore(size), out) {
+        TakenState::Snapshot => match go_on_with(
+            game,
+            snapshot,
+            cartridge,
+            Order::Restore(size),
+            out,
+        ) {
             Ok(true) => Ok(Went::On),
             Ok(false) => Ok(Went::Damaged),
             Err(why) => Err(why),
