@@ -51,6 +51,15 @@ fn is_named<R: Files<File = File>>(rt: &R, path: &str, file: FileNumber) -> bool
     }
 }
 
+/// Takes away the file of this name, where it is the one that was made.
+fn remove_made<R: Files<File = File>>(rt: &R, path: &str, made: &File) {
+    if let Ok(found) = made.metadata() {
+        if is_named(rt, path, number_of(&found)) {
+            let _ = fs::remove_file(rt, path);
+        }
+    }
+}
+
 /// A device over a file that is being made.
 #[derive(Drop)]
 pub(crate) struct MakingDevice<'a> {
@@ -74,7 +83,7 @@ impl<'a> Making<'a> {
             }),
             Err(fault) => {
                 if is_new {
-                    let _ = fs::remove_file(rt, path);
+                    remove_made(rt, path, &keeper);
                 }
                 Err(fault)
             }
@@ -260,7 +269,7 @@ fn kept_name<R: Files<File = File>>(rt: &R, path: &str) -> io::Result<(File, boo
         Ok(file) => match lock_file(&file) {
             Ok(()) => Ok((file, true)),
             Err(fault) => {
-                let _ = fs::remove_file(rt, path);
+                remove_made(rt, path, &file);
                 Err(fault)
             }
         },

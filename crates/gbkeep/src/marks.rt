@@ -5,7 +5,7 @@ ghost use Rattle.std.specs.Prelude.{◌≡◌, ◌⊎◌, IfErr};
 use crate::fault::Fault;
 use crate::files::file_bytes;
 use crate::making::replaced_file;
-use recording_marks::{Known, Mark, known_line, read_mark};
+use recording_marks::{Known, Mark, SECOND_LINE, known_line, read_mark};
 use std::alloc::AllocError;
 use std::fs::{self, File};
 use std::io::ErrorKind;
@@ -65,7 +65,7 @@ pub(crate) fn found_mark<R: Files<File = File> + AllocGlobal>(
         return Err(Fault::File);
     };
     let names_it = match lines.as_slice().strip_prefix(recording.as_bytes()) {
-        Some(rest) => rest.starts_with(b"\ngbkeep record\n"),
+        Some(rest) => rest.starts_with(SECOND_LINE.as_bytes()),
         None => false,
     };
     Ok(FoundMark {
@@ -124,5 +124,5 @@ fn marked<R: AllocGlobal>(rt: &R, save: &str) -> Result<String, AllocError> {
 fn lines_of<R: AllocGlobal>(rt: &R, recording: &str, known: &Known) -> Result<String, AllocError> {
     let line = known_line(known);
     let line = line.as_str();
-    format!(in rt.alloc(); "{recording}\ngbkeep record\n{line}")
+    format!(in rt.alloc(); "{recording}{SECOND_LINE}{line}")
 }

@@ -9,4 +9,4 @@ mod tests;
 mod text;
 
 pub use knowing::{Known, Looked, MarkFault, known_of};
-pub use text::{Mark, known_line, read_mark};
+pub use text::{Mark, SECOND_LINE, known_line, read_mark};

@@ -1,6 +1,6 @@
 //! The text of a mark.
 ghost use Rattle.std.specs.Prelude.{◌≡◌, ◌++◌, ℕ, List, IfSome};
-ghost use Rattle.recording_marks.specs.Marks.{known_text, mark_text};
+ghost use Rattle.recording_marks.specs.Marks.{known_text, mark_text, second_line};
 
 use crate::knowing::Known;
 use arrayvec::ArrayString;
@@ -9,7 +9,7 @@ use hex::FromHex;
 use std::str;
 
 /// The end of the first line of a mark, and its second line.
-const SECOND_LINE: &[u8] = b"\ngbkeep record\n";
+pub const SECOND_LINE: &str = "\ngbkeep record\n";
 
 /// What a mark says.
 #[derive(Clone, Copy)]
@@ -36,14 +36,21 @@ pub fn known_line(known: &Known) -> ArrayString<88>
 pub fn read_mark(text: &[u8]) -> Option<Mark>
     ensures { IfSome result (λ mark. (name : List ℕ) × (text.now ≡ mark_text name mark)) }
 {
-    if let Some(_name) = without_end(text, SECOND_LINE) {
+    if let Some(_name) = before_second_line(text) {
         return Some(Mark::Named);
     }
     let known = last_line(text)?;
     let line = known_line(&known);
     let first = without_end(text, line.as_bytes())?;
-    let _name = without_end(first, SECOND_LINE)?;
+    let _name = before_second_line(first)?;
     Some(Mark::Remembered(known))
+}
+
+/// The name that stands before the second line, if that is the end.
+fn before_second_line(text: &[u8]) -> Option<&[u8]>
+    ensures { IfSome result (λ name. text.now ≡ name.now ++ second_line) }
+{
+    without_end(text, SECOND_LINE.as_bytes())
 }
 
 /// What stands before this end, if it is the end.
