@@ -32,12 +32,12 @@ CODES = [
 # what a line means for a program that has bytes and no files
 HERE = {
     'rom length N': 'the ROM is not 32 KiB times a power of two, up to 8 MiB',
-    'damaged snapshot': 'the bytes are no state of a machine of this ROM, or the image does not hold what gbkeep wrote: its snapshot',
+    'damaged snapshot': 'the bytes are no state, or the image does not hold what gbkeep wrote: its snapshot',
     'device failed': 'there was no memory to note a call: resume the game',
     'device size N': 'the image is not whole sectors of 512 bytes',
     'no session': 'there is no game in the image',
     'too small, N sectors needed': 'the game needs more sectors',
-    'other cartridge': 'the game is of another ROM',
+    'other cartridge': 'the game, or the state, is of another ROM',
     'damaged count': 'the image does not hold what gbkeep wrote: the sum of its inputs',
     'damaged entry N': 'the image does not hold what gbkeep wrote: an entry of its log',
     'generations used up': 'the image has had 2^64 - 1 checkpoints',

@@ -5,6 +5,7 @@ usage: test_library.py GBKEEP [LIBRARY]     LIBRARY: a folder with all that `mak
 CC names the C compiler. Where it has the sanitizers, play.c is built with them."""
 import array
 import contextlib
+import hashlib
 import itertools
 import os
 import random
@@ -32,6 +33,11 @@ ROM = DEMO.read_bytes()
 SCRIPT = b'frames 00 40\nframes 80 4\nsave\nframes 11 30\nsave\nseconds 7\nframe 10\nsave\nframes 01 90\n'
 SECTOR = 512
 CART = save_files.Cartridge(ROM)
+# what each state begins with; another ROM has the same controller and RAM
+HEADER = b'GBSTATE1' + hashlib.sha256(ROM).digest()
+OTHER_ROM = ROM[:-1] + bytes([ROM[-1] ^ 1])
+# codes of gbkeep.h
+DONE, DAMAGED_SNAPSHOT, OTHER_CARTRIDGE, SAVE_FIRST = 0, 6, 10, 15
 
 
 def run(*words, **how):
@@ -313,6 +319,59 @@ class InPython(InFolder):
             Session(ROM, sectors=3)
         with self.assertRaises(Refused):
             Session(ROM, bytes(1000))
+
+    def test_a_state_is_a_header_of_its_rom_and_a_snapshot(self):
+        save = self.folder / 'save'
+        self.gbkeep('new', DEMO, save)
+        self.script.write_bytes(b'frames 80 4\nframes 01 30\nsave\n')
+        self.gbkeep('play', DEMO, save, self.script)
+        shown = self.gbkeep('show', DEMO, save)
+        with Machine(ROM) as machine, Session(ROM) as session, Machine(OTHER_ROM) as other:
+            for one in (machine, session, other):
+                one.frames(0x80, 4)
+                one.frames(0x01, 30)
+                state = one.state()
+                self.assertEqual((len(state), one.state_length()), (40 + CART.length, 40 + CART.length))
+                self.assertIn('state ' + hashlib.sha256(state[40:]).hexdigest(), shown)
+                self.assertTrue(save_files.is_legal(state[40:], CART))
+                self.assertEqual(state[:40], HEADER if one is not other else b'GBSTATE1' + hashlib.sha256(OTHER_ROM).digest())
+
+    def test_a_state_is_taken_by_its_own_rom_alone(self):
+        with Machine(ROM) as machine, Session(ROM) as session, Machine(OTHER_ROM) as other:
+            def codes_of(one, given):
+                return [one._call('restore', state, len(state)) for state in given]
+
+            for one in (machine, session, other):
+                one.frames(0x80, 4)
+            own, foreign = machine.state(), other.state()
+            # no matter what stands behind the header
+            of_another = [foreign, foreign[:40], foreign[:-1], foreign + b'x', foreign[:40] + own[40:], foreign[:40] + bytes(len(own) - 40)]
+            # no header, a part of one, another mark; and a state of this ROM of another length, or with a field that is not legal
+            damaged = [b'', own[:39], own[40:], foreign[40:], bytes(len(own)), b'GBSTATE2' + own[8:], b'GBSTATE2' + foreign[8:], b'x' + own,
+                       own[:40], own[:-1], own + b'x', own[:40] + own, own[:60] + b'\xff' + own[61:]]
+            for one in (machine, session):
+                one.frames(0x01, 30)
+                before, count = one.state(), getattr(one, 'count', 0)
+                self.assertEqual(codes_of(one, of_another), [OTHER_CARTRIDGE] * len(of_another))
+                self.assertEqual(codes_of(one, damaged), [DAMAGED_SNAPSHOT] * len(damaged))
+                self.assertEqual((one.state(), getattr(one, 'count', 0)), (before, count))
+                for state in (foreign, foreign[:40]):
+                    with self.assertRaises(Refused) as refused:
+                        one.restore(state)
+                    self.assertEqual((refused.exception.code, refused.exception.line), (OTHER_CARTRIDGE, 'other cartridge'))
+            # each bit of the header counts
+            for bit in range(320):
+                state = bytearray(own)
+                state[bit // 8] ^= 1 << bit % 8
+                for one in (machine, session):
+                    self.assertEqual(codes_of(one, [bytes(state)]), [DAMAGED_SNAPSHOT if bit < 64 else OTHER_CARTRIDGE])
+            # why no input is taken comes first
+            session.frames(0, 3200 - session.count)
+            self.assertEqual(codes_of(session, [own, *of_another, *damaged]), [SAVE_FIRST] * (1 + len(of_another) + len(damaged)))
+            session.save()
+            self.assertEqual(codes_of(session, [foreign, own[40:], own]), [OTHER_CARTRIDGE, DAMAGED_SNAPSHOT, DONE])
+            self.assertEqual((session.state(), session.count), (own, 3201))
+            self.assertEqual((codes_of(other, [own, foreign]), other.state()), ([OTHER_CARTRIDGE, DONE], foreign))
 
     def test_a_battery_file_begins_a_game_and_comes_out_as_by_the_program(self):
         chance = random.Random(1)

@@ -133,7 +133,7 @@ for await (const name of folder.keys()) {
   if (name.endsWith('.gbkeep')) {
     try {
       const session = Session.resume(library, rom, await bytesOf(name));
-      found[name] = [Number(session.count()), await sha256(session.state())];
+      found[name] = [Number(session.count()), await sha256(session.snapshot())];
       session.free();
     } catch (error) {
       found[name] = [-1, String(error)];

@@ -84,8 +84,18 @@ enum { IS_SHOWN = 1, HAS_NO_SOUND = 8 };
 enum { FRAMES_UNSAVED = 3600 };
 /* what is shown at once has room on the smallest screen */
 enum { MOST_SHOWN = 64, MOST_LINE = 64 };
-/* where a state has what the front end may look at (docs/SNAPSHOT.md) */
-enum { NUMBER = 8, STATE_MORE = 2 * NUMBER, STATE_IE = 22, STATE_VRAM = 128, STATE_WRAM = 8320, STATE_OAM = 16512, STATE_HRAM = 16672, STATE_CART_RAM = 22607 };
+/* where a state has what the front end may look at: it is a header, which names the ROM, and a snapshot (docs/SNAPSHOT.md) */
+enum {
+    STATE_HEADER = 40,
+    STATE_IE = STATE_HEADER + 22,
+    STATE_VRAM = STATE_HEADER + 128,
+    STATE_WRAM = STATE_HEADER + 8320,
+    STATE_OAM = STATE_HEADER + 16512,
+    STATE_HRAM = STATE_HEADER + 16672,
+    STATE_CART_RAM = STATE_HEADER + 22607
+};
+/* what the front end's has behind it: two numbers */
+enum { NUMBER = 8, STATE_MORE = 2 * NUMBER };
 static const long long LAST_SECOND = 99999999999, MOST_SECONDS = 0xffffffff;
 static const double FRAMES_A_SECOND = 4194304.0 / 70224;
 
@@ -1374,14 +1384,19 @@ static void go_back(unsigned long long until) {
 RETRO_API bool retro_unserialize(const void *data, size_t size) {
     const uint8_t *bytes = data;
     size_t length = game.state_length;
-    if (!(game.session || game.machine) || size < length + STATE_MORE)
+    if (!(game.session || game.machine))
         return false;
     if (game.session && !(look_around() && has_room()))
         return false;
-    uint32_t code = game.session ? gbkeep_session_restore(game.session, bytes, length) : gbkeep_machine_restore(game.machine, bytes, length);
-    if (code == GBKEEP_DAMAGED_SNAPSHOT)
+    /* one that is cut short is refused by the library, which is given less than it takes */
+    size_t given = size >= length + STATE_MORE ? length : size < length ? size : length - 1;
+    uint32_t code = game.session ? gbkeep_session_restore(game.session, bytes, given) : gbkeep_machine_restore(game.machine, bytes, given);
+    if (code == GBKEEP_OTHER_CARTRIDGE)
+        tell(REFUSAL, 300, "The state names another ROM. A ROM of another version, or one that was patched, is another game. What to do: load the game that it is of.",
+             "This is a state of another game");
+    else if (code == GBKEEP_DAMAGED_SNAPSHOT)
         tell(REFUSAL, 300, NULL, "This is no state of this game");
-    if (code == GBKEEP_DAMAGED_SNAPSHOT || (game.session && !was_given(code)))
+    if (code == GBKEEP_OTHER_CARTRIDGE || code == GBKEEP_DAMAGED_SNAPSHOT || (game.session && !was_given(code)))
         return false;
     game.is_whole = true;
     game.frame = number_at(bytes + length + NUMBER);

@@ -41,8 +41,8 @@ SET_MEMORY_MAPS, GET_AUDIO_VIDEO_ENABLE = 36 | 0x10000, 47 | 0x10000
 # what the front end wants of a frame: all, or nothing as it runs ahead; of the second instance by which it does so the picture, and no sound ever
 WANTED, UNWANTED, AHEAD = 3, 4, 13
 SYSTEM_RAM, SAVE_RAM = 2, 0
-# what a state of the front end's has behind the machine's: the clock's time, and the number of a frame
-TIME, MORE = 8, 16
+# what a state has in front of the snapshot, and one of the front end's behind it: the clock's time, and the number of a frame
+HEADER, TIME, MORE = 40, 8, 16
 # what a line on the screen may have
 MOST_SHOWN = 64
 TWICE = 'This game is open twice: nothing that is played here is saved'
@@ -307,10 +307,40 @@ def test_states(program, core, room):
     expect('an older state', (front.restore(states['plain']), front.state()), (True, states['plain']))
     # what is no state changes nothing
     state, wrong = states['plain'], room / 'wrong.gb'
-    for bad in (b'', b'x', state[:-1], state[:100], bytes(len(state)), b'\xff' * len(state), state[:51] + b'\5' + state[52:], state[1:] + b'x'):
-        expect('no state', (front.restore(bad), front.state()), (False, state))
+    kind = HEADER + 51
+    # the last two have no header
+    for bad in (b'', b'x', state[:-1], state[:100], bytes(len(state)), b'\xff' * len(state), state[:kind] + b'\5' + state[kind + 1:], state[1:] + b'x',
+                state[HEADER:], state[HEADER:] + bytes(HEADER)):
+        expect('no state', (front.restore(bad), front.state(), front.told[-1:]), (False, state, ['This is no state of this game']))
+        front.told.clear()
     expect('a longer one', front.restore(state + bytes(1000)), True)
     front.unload()
+    # nor does a state of another game, whose RAM is as long, shorter or longer; and a second instance takes none, either
+    copy, one_more = room / 'states.so', room / 'one_more'
+    shutil.copy(core, copy)
+    one_more.mkdir()
+    for number, (kind, ram) in enumerate(((3, 3), (3, 2), (0x1b, 4))):
+        rom, cart = bytearray(CART.read_bytes()), room / f'other{number}.gb'
+        rom[0x147], rom[0x149], rom[-1] = kind, ram, rom[-1] ^ 1
+        cart.write_bytes(rom)
+        front = FrontEnd(core, one_more)
+        front.load(cart)
+        front.frames(START, 3)
+        other = front.state()
+        front.unload()
+        count = shades_of(program, CART, folder / 'demo.gbkeep', room)[1]
+        front, second = FrontEnd(core, folder), FrontEnd(copy, folder)
+        second.wanted = AHEAD
+        for one in (front, second):
+            one.load(CART)
+            one.frames(START, 3)
+        for one in (front, second):
+            before = one.state()
+            expect('of another game', (one.restore(other), one.restore(other[:HEADER]), one.state()), (False, False, before))
+            expect('what is told', one.told, ['This is a state of another game'] * 2)
+        second.unload()
+        front.unload()
+        expect('and nothing is saved', shades_of(program, CART, folder / 'demo.gbkeep', room)[1], count + 3)
     # without a game there is none
     wrong.write_bytes(bytes(1000))
     front = FrontEnd(core, folder)

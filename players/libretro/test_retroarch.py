@@ -28,8 +28,9 @@ SETTINGS = {'video_driver': 'gl', 'audio_driver': 'null', 'input_driver': 'x', '
             'video_vsync': 'false', 'vrr_runloop_enable': 'true', 'history_list_enable': 'false', 'cheevos_enable': 'false', 'network_cmd_enable': 'true',
             'pause_nonactive': 'false', 'content_runtime_log': 'false', 'savestate_file_compression': 'false'}
 AHEAD = {'run_ahead_enabled': 'true', 'run_ahead_frames': '2'}
-# a state without the cartridge's RAM, in which the demo counts frames
-STATE = 22607
+# a state without the cartridge's RAM, in which the demo counts frames, and where its snapshot begins
+HEADER = 40
+STATE = HEADER + 22607
 RAM, LENGTH, OAM = 0xc000, 0x2000, 0xfe00
 
 
@@ -124,7 +125,7 @@ class RetroArch:
         self.until(lambda: file.exists() and file.read_bytes() not in (held, b''), 'a state is written')
         data = file.read_bytes()
         with Machine(CART.read_bytes()) as machine:
-            return data[data.index(b'GBSNAP01'):][:machine.state_length()]
+            return data[data.index(b'GBSTATE1'):][:machine.state_length()]
 
     def end(self):
         """Ends it, and answers what the core has logged."""
@@ -240,13 +241,15 @@ def states(front, program, room):
     # one that is no state
     file = front.states / 'demo.state'
     data = bytearray(file.read_bytes())
-    at = data.index(b'GBSNAP01')
-    data[at + 51] = 5
-    file.write_bytes(data)
-    front.start(CART).until_played()
-    front.say('LOAD_STATE')
-    front.until_played()
-    expect('no state', [line for line in front.end() if not line.startswith(('resumed', 'saved'))], ['This is no state of this game'])
+    at = data.index(b'GBSTATE1')
+    for place, wanted in ((at + HEADER + 51, ['This is no state of this game']), (at + 8, ['This is a state of another game'])):
+        changed = bytearray(data)
+        changed[place] ^= 0x10
+        file.write_bytes(changed)
+        front.start(CART).until_played()
+        front.say('LOAD_STATE')
+        front.until_played()
+        expect('no state', [line for line in front.end() if not line.startswith(('resumed', 'saved', 'The state names another ROM'))], wanted)
     # rewinding
     save.unlink()
     front.start(CART, rewind_enable='true').until_played(300)

@@ -537,9 +537,9 @@ export class Game {
     return this.session.picture();
   }
 
-  /** The SHA-256 of the state, as `gbkeep show` prints it. */
+  /** The SHA-256 of the machine's snapshot, as `gbkeep show` prints it. */
   state() {
-    return sha256(this.session.state());
+    return sha256(this.session.snapshot());
   }
 
   /** The battery file, as other emulators read it. */

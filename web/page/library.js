@@ -9,6 +9,8 @@ const WRITE = 1;
 const SYNC = 2;
 // a call: kind, sector, bytes
 const CALL_LENGTH = 8 + SECTOR;
+// what a state has in front of the snapshot
+const HEADER_LENGTH = 40;
 
 // a module of one 64-bit memory and nothing else
 const SMALLEST = new Uint8Array([0, 0x61, 0x73, 0x6d, 1, 0, 0, 0, 5, 3, 1, 4, 1]);
@@ -162,7 +164,7 @@ export class Session {
     check(this.library.calls.gbkeep_session_power(this.at));
   }
 
-  /** Goes on with the machine of a state, as one input. Bytes that are no state of the cartridge are refused, and nothing changes. */
+  /** Goes on with the machine of a state, as one input. Bytes that are no state of this ROM are refused, and nothing changes. */
   restore(bytes) {
     this.library.with([bytes], (at) => check(this.library.calls.gbkeep_session_restore(this.at, at, BigInt(bytes.length))));
   }
@@ -196,11 +198,11 @@ export class Session {
     return this.library.bytes(this.picturePlace, PICTURE_LENGTH).slice();
   }
 
-  /** A copy of the state: the snapshot of the machine. */
-  state() {
+  /** A copy of the snapshot of the machine. */
+  snapshot() {
     const bytes = new Uint8Array(this.stateLength);
     this.stateInto(bytes);
-    return bytes;
+    return bytes.subarray(HEADER_LENGTH);
   }
 
   /** A copy of the battery file, as other emulators read it. Refused for a cartridge without battery. */

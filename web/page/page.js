@@ -635,7 +635,7 @@ window.gbkeep = {
     shown(place);
     return counted(place.saved);
   }),
-  /** The SHA-256 of the state, as `gbkeep show` prints it of the SAVE. */
+  /** The SHA-256 of the machine's snapshot, as `gbkeep show` prints it of the SAVE. */
   state: () => ask('state'),
   /** 23,040 shades, 0 the darkest and 3 the lightest, row by row. */
   picture: () => ask('picture'),

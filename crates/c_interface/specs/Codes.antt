@@ -1,9 +1,7 @@
 -- The numbers that refusals have in C.
-use Rattle.std.specs.Prelude.{◌≡◌, ℕ, List, ⊤, ◌⊎◌, Some}
-use Rattle.cartridge.specs.Accepted.{refusal_of}
+use Rattle.std.specs.Prelude.{◌≡◌, ℕ, List, ◌⊎◌, Result, Ok, Err}
 use Rattle.cartridge.specs.declared.error.CartError.{CartError}
 use Rattle.cartridge.specs.declared.error.CartError.TheVariants.{Length, Kind, RamCode, TooManyBanks}
-use Rattle.snapshot.specs.Legal.{IsLegalSnapshot}
 use Rattle.snapshot.specs.declared.error.SnapError.{SnapError}
 use Rattle.snapshot.specs.declared.error.SnapError.TheVariants.{SnapLength, Field, Memory as NoRoom}
 use Rattle.session.specs.declared.error.Damage.{Damage}
@@ -18,8 +16,9 @@ use Rattle.embedding.specs.declared.error.GameError.{GameError}
 use Rattle.embedding.specs.declared.error.GameError.TheVariants as game
 use Rattle.embedding.specs.Games.{IsBatteryCause, IsBeginCause, IsImportCause, IsSaveCause, IsTakeUpCause}
 use Rattle.embedding.specs.Orders.{IsNewCause, IsRestoreCause}
+use Rattle.embedding.specs.States.{IsStateAnswer}
 use Rattle.embedding.specs.declared.error.ConsoleError.{ConsoleError}
-use Rattle.embedding.specs.declared.error.ConsoleError.TheVariants.{Memory, Cart, Snapshot}
+use Rattle.embedding.specs.declared.error.ConsoleError.TheVariants.{Memory, Cart, NoState, OtherCartridge, Snapshot}
 
 -- done
 abbrev pub done : ℕ
@@ -45,6 +44,8 @@ snapshot_code (Field n) = 6
 abbrev pub console_code : ConsoleError → ℕ
 console_code Memory = 1
 console_code (Cart fault) = cart_code fault
+console_code NoState = 6
+console_code OtherCartridge = 10
 console_code (Snapshot fault) = snapshot_code fault
 
 -- damaged count, snapshot, entry
@@ -66,6 +67,11 @@ session_code session.Broken = 16
 session_code session.SaveFirst = 15
 session_code session.CountFull = 14
 session_code session.Output = 19
+
+-- of what a session answers to an input
+abbrev pub answer_code : Result Unit SessionError → ℕ
+answer_code (Ok finished) = done
+answer_code (Err why) = session_code why
 
 -- no battery, battery length, device size, or what a session refused
 abbrev pub game_code : GameError → ℕ
@@ -121,3 +127,9 @@ IsSaveCode old new noted code = (code ≡ done) ⊎ HasGameCode code (IsSaveCaus
 
 abbrev pub IsBatteryCode : (rom : List ℕ) → ℕ → Type 0
 IsBatteryCode rom code = (code ≡ done) ⊎ HasGameCode code (IsBatteryCause rom)
+
+-- the code of what a session answers to a state, where it would answer an input so
+pub record IsStateCode (rom bytes : List ℕ) (taken : Result Unit SessionError) (code : ℕ) : Type 0 where
+  pub answer : Result Unit SessionError
+  pub given : IsStateAnswer rom bytes taken answer
+  pub is : code ≡ answer_code answer

@@ -43,6 +43,8 @@ pub fn console_code(why: ConsoleError) -> u32
     match why {
         ConsoleError::Memory => NO_MEMORY,
         ConsoleError::Cart(why) => cart_code(why),
+        ConsoleError::NoState => 6,
+        ConsoleError::OtherCartridge => 10,
         ConsoleError::Snapshot(why) => snapshot_code(why),
     }
 }

@@ -3,8 +3,8 @@
 ghost use Rattle.std.specs.Prelude.{◌≡◌, length, replicate, true};
 ghost use Rattle.machine.specs.Machine.{start, after, picture_rows, powered, seconds_passed};
 ghost use Rattle.machine.specs.Machine.{Frame};
-ghost use Rattle.snapshot.specs.Encoding.{encoded, snapshot_length};
 ghost use Rattle.snapshot.specs.Legal.{IsMachineOf};
+ghost use Rattle.state_header.specs.States.{state_length, state_of};
 ghost use Rattle.embedding.specs.Orders.{shades_of, bytes_from};
 ghost use Rattle.c_interface.specs.Codes.{done, IsMadeCode, IsRestoredCode, no_memory};
 
@@ -117,7 +117,7 @@ pub extern "C" fn gbkeep_draw_machine(
 pub extern "C" fn gbkeep_measure_machine(machine: MachineHandle, out: &mut MachineHandle) -> usize
     requires held { machine.held ≡ true }
     ensures held { out.new.held ≡ true }
-    ensures length { result ≡ snapshot_length (length machine.value.machine.processor.memory.banks.ram) }
+    ensures length { result ≡ state_length (length machine.value.machine.processor.memory.banks.ram) }
     ensures machine { out.new.value.machine ≡ machine.value.machine }
     ensures cartridge { out.new.value.cartridge ≡ machine.value.cartridge }
 {
@@ -135,9 +135,9 @@ pub extern "C" fn gbkeep_keep_machine(
     out: &mut MachineHandle,
 )
     requires held { machine.held ≡ true }
-    requires room { length bytes.old ≡ snapshot_length (length machine.value.machine.processor.memory.banks.ram) }
+    requires room { length bytes.old ≡ state_length (length machine.value.machine.processor.memory.banks.ram) }
     ensures held { out.new.held ≡ true }
-    ensures state { bytes.new ≡ encoded machine.value.machine }
+    ensures state { bytes.new ≡ state_of machine.value.machine }
     ensures machine { out.new.value.machine ≡ machine.value.machine }
     ensures cartridge { out.new.value.cartridge ≡ machine.value.cartridge }
 {
@@ -155,7 +155,7 @@ pub extern "C" fn gbkeep_restore_machine(
 ) -> u32
     requires held { machine.held ≡ true }
     ensures held { out.new.held ≡ true }
-    ensures state { result ≡ done → encoded out.new.value.machine ≡ bytes.now }
+    ensures state { result ≡ done → state_of out.new.value.machine ≡ bytes.now }
     ensures of { result ≡ done → IsMachineOf machine.value.cartridge out.new.value.machine }
     ensures refused { ¬ (result ≡ done) → out.new.value.machine ≡ machine.value.machine }
     ensures code { IsRestoredCode machine.value.cartridge bytes.now result }

@@ -3,10 +3,12 @@
 ghost use Rattle.std.specs.Prelude.{◌≡◌, ◌++◌, ◌∷◌, ◌+◌, ◌⊎◌, [], length, take, slice_get, Some, None, true, false};
 ghost use Rattle.cartridge.specs.Header.{has_battery, ram_length_of};
 ghost use Rattle.machine.specs.Machine.{Frame, Seconds, Power, State, start, applied, picture_rows};
-ghost use Rattle.snapshot.specs.Encoding.{encoded, snapshot_length};
+ghost use Rattle.snapshot.specs.Encoding.{snapshot_length};
+ghost use Rattle.state_header.specs.States.{state_length, state_of};
 ghost use Rattle.log_format.specs.Content.{content, need};
 ghost use Rattle.sector_device.specs.Runs.{HoldsSince};
 ghost use Rattle.session.specs.Accessors.{device_of, machine_of, rom_of, pending_of, acknowledged_of, is_broken, IsUnchanged};
+ghost use Rattle.session.specs.Calls.{input_answer};
 ghost use Rattle.session.specs.Stands.{IsAtRest, stands, StandsBetween};
 ghost use Rattle.session.specs.Inputs.{can_be_logged, entry_of, inputs_of};
 ghost use Rattle.battery_files.specs.Battery.{battery_length, battery_of};
@@ -15,7 +17,7 @@ ghost use Rattle.embedding.specs.Orders.{shades_of};
 ghost use Rattle.embedding.specs.Games.{IsFrom, IsTaken};
 ghost use Rattle.embedding.specs.HostDevices.{calls_of, host_disk};
 ghost use Rattle.embedding.specs.declared.host_device.Call.TheVariants.{Write, Sync};
-ghost use Rattle.c_interface.specs.Codes.{done, no_call, a_write, a_sync, IsBatteryCode, IsBegunCode, IsImportedCode, IsSaveCode, IsTakenUpCode};
+ghost use Rattle.c_interface.specs.Codes.{done, no_call, a_write, a_sync, IsBatteryCode, IsBegunCode, IsImportedCode, IsSaveCode, IsStateCode, IsTakenUpCode};
 
 use crate::codes::{DONE, NO_MEMORY, game_code, session_code};
 use crate::session_handle::SessionHandle;
@@ -251,7 +253,10 @@ pub extern "C" fn gbkeep_restore_session(
 ) -> u32
     requires held { session.held ≡ true }
     ensures held { out.new.held ≡ true }
-    ensures machine { result ≡ done → encoded (machine_of out.new.value.session) ≡ bytes.now }
+    ensures machine { result ≡ done → state_of (machine_of out.new.value.session) ≡ bytes.now }
+    ensures code { IsStateCode session.value.cartridge bytes.now
+        (input_answer (is_broken session.value.session) (length (pending_of session.value.session))
+        (acknowledged_of session.value.session + length (pending_of session.value.session))) result }
     ensures pending { result ≡ done →
         pending_of out.new.value.session ≡
         pending_of session.value.session ++ entry_of (State (machine_of out.new.value.session)) ∷ [] }
@@ -382,7 +387,7 @@ pub extern "C" fn gbkeep_draw_session(
 pub extern "C" fn gbkeep_measure_session(session: SessionHandle, out: &mut SessionHandle) -> usize
     requires held { session.held ≡ true }
     ensures held { out.new.held ≡ true }
-    ensures length { result ≡ snapshot_length (length (machine_of session.value.session).processor.memory.banks.ram) }
+    ensures length { result ≡ state_length (length (machine_of session.value.session).processor.memory.banks.ram) }
     ensures session { out.new.value.session ≡ session.value.session }
     ensures noted { out.new.value.noted.items ≡ session.value.noted.items }
     ensures handed { out.new.value.handed ≡ session.value.handed }
@@ -402,9 +407,9 @@ pub extern "C" fn gbkeep_keep_session(
 )
     requires held { session.held ≡ true }
     requires room { length bytes.old ≡
-        snapshot_length (length (machine_of session.value.session).processor.memory.banks.ram) }
+        state_length (length (machine_of session.value.session).processor.memory.banks.ram) }
     ensures held { out.new.held ≡ true }
-    ensures state { bytes.new ≡ encoded (machine_of session.value.session) }
+    ensures state { bytes.new ≡ state_of (machine_of session.value.session) }
     ensures session { out.new.value.session ≡ session.value.session }
     ensures noted { out.new.value.noted.items ≡ session.value.noted.items }
     ensures handed { out.new.value.handed ≡ session.value.handed }

@@ -1,2 +1,3 @@
 pub mod Noting
 pub mod Same
+pub mod StateAnswers

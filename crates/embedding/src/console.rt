@@ -4,18 +4,20 @@ ghost use Rattle.std.specs.Prelude.{◌≡◌, length, replicate, IfOk, IfErr, O
 ghost use Rattle.cartridge.specs.Accepted.{IsAccepted};
 ghost use Rattle.machine.specs.Machine.{start, after, picture_rows, powered, seconds_passed};
 ghost use Rattle.machine.specs.Machine.{Frame};
-ghost use Rattle.snapshot.specs.Encoding.{encoded, snapshot_length};
 ghost use Rattle.snapshot.specs.Legal.{IsMachineOf};
+ghost use Rattle.state_header.specs.States.{state_length, state_of};
 ghost use Rattle.session.specs.Resting.{IsOfItsRom, own_prop};
 ghost use Rattle.embedding.specs.Orders.{shades_of, bytes_from, IsNewCause, IsRestoreCause};
 ghost use Rattle.embedding.specs.declared.error.ConsoleError.TheVariants.{Memory};
 
 use crate::error::ConsoleError;
 use crate::shades::write_shades;
+use crate::states::{named, write_state};
 use cartridge::Cartridge;
 use machine::{Input, Machine};
 use session::machine_at_power_on;
-use snapshot::{decode_into, encode, powered};
+use snapshot::{decode_into, powered};
+use state_header::{HEADER_LENGTH, Named};
 use std::alloc::{AllocError, Global};
 use std::mem;
 
@@ -111,37 +113,44 @@ impl Console {
         write_shades(self.machine.picture(), shades);
     }
 
-    /// The bytes of a state: 22,607, and those of the cartridge's RAM.
+    /// The bytes of a state: 22,647, and those of the cartridge's RAM.
     pub fn state_length(&self) -> usize
-        ensures length { result ≡ snapshot_length (length self.now.machine.processor.memory.banks.ram) }
+        ensures length { result ≡ state_length (length self.now.machine.processor.memory.banks.ram) }
     {
-        snapshot::length(self.cartridge.ram_length())
+        HEADER_LENGTH + snapshot::length(self.cartridge.ram_length())
     }
 
-    /// Writes the state: the snapshot of the machine. Condition: there are as many bytes as `state_length` says.
+    /// Writes the state: the header of this ROM's, and the snapshot of the machine. Condition: there are as many bytes as `state_length` says.
     pub fn state(&mut self, bytes: &mut [u8])
-        requires { length bytes.old ≡ snapshot_length (length self.old.machine.processor.memory.banks.ram) }
-        ensures state { bytes.new ≡ encoded self.old.machine }
+        requires { length bytes.old ≡ state_length (length self.old.machine.processor.memory.banks.ram) }
+        ensures state { bytes.new ≡ state_of self.old.machine }
         ensures machine { self.new.machine ≡ self.old.machine }
         ensures cartridge { self.new.cartridge ≡ self.old.cartridge }
     {
         self.machine.draw_late();
-        encode(&self.machine, bytes);
+        write_state(&self.machine, &self.cartridge, bytes);
     }
 
     /// Takes the machine whose state this is.
     ///
-    /// Refused for bytes that are no state of this cartridge.
+    /// Refusals: `NoState` for bytes that do not begin with the header of a state; `OtherCartridge` for the header of another ROM, no matter what
+    /// stands behind it; `Snapshot` for what is no legal snapshot behind this ROM's.
     pub fn restore(&mut self, bytes: &[u8]) -> Result<(), ConsoleError>
-        ensures state { OnOk result (encoded self.new.machine ≡ bytes.now) }
+        ensures state { OnOk result (state_of self.new.machine ≡ bytes.now) }
         ensures of { OnOk result (IsMachineOf self.old.cartridge self.new.machine) }
         ensures cartridge { self.new.cartridge ≡ self.old.cartridge }
         ensures refused { OnErr result (self.new.machine ≡ self.old.machine) }
         ensures cause { IfErr result (IsRestoreCause self.old.cartridge bytes.now) }
     {
-        match decode_into(bytes, &self.cartridge, &mut self.machine) {
-            Ok(()) => Ok(()),
-            Err(why) => Err(ConsoleError::Snapshot(why)),
+        match named(bytes, &self.cartridge) {
+            Named::Same => {
+                match decode_into(&bytes[HEADER_LENGTH..], &self.cartridge, &mut self.machine) {
+                    Ok(()) => Ok(()),
+                    Err(why) => Err(ConsoleError::Snapshot(why)),
+                }
+            }
+            Named::Other => Err(ConsoleError::OtherCartridge),
+            Named::Nothing => Err(ConsoleError::NoState),
         }
     }
 

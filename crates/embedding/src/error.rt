@@ -14,7 +14,13 @@ pub enum ConsoleError {
     /// The image is not an accepted cartridge: the first rule that it breaks.
     #[error("{0}")]
     Cart(CartError),
-    /// The bytes are no legal snapshot of this cartridge.
+    /// The bytes are no state: they do not begin with a header of one.
+    #[error("damaged snapshot")]
+    NoState,
+    /// The state is of another ROM.
+    #[error("other cartridge")]
+    OtherCartridge,
+    /// What stands behind the header of this ROM's states is no legal snapshot of it.
     #[error("{0}")]
     Snapshot(SnapError),
 }

@@ -4,12 +4,13 @@ ghost use Rattle.std.specs.Prelude.{◌≡◌, ◌≤◌, ◌<◌, ◌+◌, ◌*
 ghost use Rattle.cartridge.specs.Accepted.{IsAccepted, refusal_of};
 ghost use Rattle.cartridge.specs.Header.{has_battery, ram_length_of};
 ghost use Rattle.machine.specs.Machine.{Power, State, start, as_input, applied, picture_rows};
-ghost use Rattle.snapshot.specs.Encoding.{encoded, snapshot_length};
+ghost use Rattle.snapshot.specs.Encoding.{snapshot_length};
+ghost use Rattle.state_header.specs.States.{state_length, state_of};
 ghost use Rattle.sector_device.specs.DiskState.{sector_at};
 ghost use Rattle.sector_device.specs.Runs.{HoldsSince};
 ghost use Rattle.log_format.specs.Content.{content, need};
 ghost use Rattle.session.specs.Accessors.{device_of, machine_of, rom_of, pending_of, acknowledged_of, is_broken, IsUnchanged};
-ghost use Rattle.session.specs.Calls.{IsRestoreAnswer, input_answer};
+ghost use Rattle.session.specs.Calls.{input_answer};
 ghost use Rattle.session.specs.Stands.{IsAtRest, stands, StandsBetween};
 ghost use Rattle.session.specs.Inputs.{can_be_logged, entry_of, inputs_of};
 ghost use Rattle.battery_files.specs.Battery.{battery_length, battery_of};
@@ -17,16 +18,18 @@ ghost use Rattle.battery_files.specs.Importing.{IsImportCause as IsFileCause, st
 ghost use Rattle.embedding.specs.Orders.{shades_of};
 ghost use Rattle.embedding.specs.Games.{IsBatteryCause, IsBeginCause, IsCartCause, IsFrom, IsImportCause, IsSaveCause, IsTakeUpCause, IsTaken};
 ghost use Rattle.embedding.specs.HostDevices.{calls_of, count_of, host_disk};
+ghost use Rattle.embedding.specs.States.{IsStateAnswer};
 
 use crate::error::GameError;
 use crate::host_device::{Call, HostDevice};
 use crate::shades::write_shades;
+use crate::states::{named, told_of_other, write_state};
 use battery_files::{ImportError, battery_length, battery_of, machine_with_battery};
 use cartridge::Cartridge;
 use machine::{Input, Region};
 use sector_device::SectorDevice;
 use session::{Session, SessionError, new_game, new_game_from, resume, sectors_needed};
-use snapshot::encode;
+use state_header::{HEADER_LENGTH, Named};
 use std::alloc::Global;
 
 /// A game, the calls that its device noted, and how many of them were handed out.
@@ -263,12 +266,14 @@ impl Game {
 
     /// Goes on with the machine of a state: one input, which is not saved yet. It takes no memory.
     ///
-    /// Refusals, none of which changes anything: those of `Session::restore`.
+    /// Refusals, in this order, none of which changes anything: those of `Session::input`; `Damaged` with `Snapshot` for bytes that do not begin with
+    /// the header of a state; `OtherCartridge` for the header of another ROM, no matter what stands behind it; `Damaged` with `Snapshot` for what is
+    /// no legal snapshot behind this ROM's.
     pub fn restore(&mut self, bytes: &[u8]) -> Result<(), SessionError>
-        ensures answer { IsRestoreAnswer self.old.cartridge bytes.now
+        ensures answer { IsStateAnswer self.old.cartridge bytes.now
             (input_answer (is_broken self.old.session) (length (pending_of self.old.session))
             (acknowledged_of self.old.session + length (pending_of self.old.session))) result }
-        ensures machine { OnOk result (encoded (machine_of self.new.session) ≡ bytes.now) }
+        ensures machine { OnOk result (state_of (machine_of self.new.session) ≡ bytes.now) }
         ensures pending { OnOk result (pending_of self.new.session ≡
             pending_of self.old.session ++ entry_of (State (machine_of self.new.session)) ∷ []) }
         ensures refused { OnErr result (IsUnchanged self.old.session self.new.session) }
@@ -279,7 +284,14 @@ impl Game {
         ensures kept { (acknowledged_of self.new.session ≡ acknowledged_of self.old.session) ×
             (rom_of self.new.session ≡ rom_of self.old.session) }
     {
-        self.session.restore(bytes, &self.cartridge)
+        // No snapshot has no bytes: to these the session answers why it takes no input, and else that they are damaged.
+        match named(bytes, &self.cartridge) {
+            Named::Same => self
+                .session
+                .restore(&bytes[HEADER_LENGTH..], &self.cartridge),
+            Named::Other => told_of_other(self.session.restore(&[], &self.cartridge)),
+            Named::Nothing => self.session.restore(&[], &self.cartridge),
+        }
     }
 
     /// Saves what is pending. At `Ok` the calls that were noted end with the sync that makes it sure: once the host has made them all, no power
@@ -370,26 +382,26 @@ impl Game {
         write_shades(self.session.machine().picture(), shades);
     }
 
-    /// The bytes of a state: 22,607, and those of the cartridge's RAM.
+    /// The bytes of a state: 22,647, and those of the cartridge's RAM.
     pub fn state_length(&self) -> usize
-        ensures length { result ≡ snapshot_length (length (machine_of self.now.session).processor.memory.banks.ram) }
+        ensures length { result ≡ state_length (length (machine_of self.now.session).processor.memory.banks.ram) }
     {
         let machine = self.session.machine();
-        snapshot::length(machine.region(Region::CartRam).len())
+        HEADER_LENGTH + snapshot::length(machine.region(Region::CartRam).len())
     }
 
-    /// Writes the state: the snapshot of the machine. Condition: there are as many bytes as `state_length` says.
+    /// Writes the state, as `Console::state` does. Condition: there are as many bytes as `state_length` says.
     pub fn state(&mut self, bytes: &mut [u8])
         requires { length bytes.old ≡
-            snapshot_length (length (machine_of self.old.session).processor.memory.banks.ram) }
-        ensures state { bytes.new ≡ encoded (machine_of self.old.session) }
+            state_length (length (machine_of self.old.session).processor.memory.banks.ram) }
+        ensures state { bytes.new ≡ state_of (machine_of self.old.session) }
         ensures session { self.new.session ≡ self.old.session }
         ensures noted { self.new.noted.items ≡ self.old.noted.items }
         ensures handed { self.new.handed ≡ self.old.handed }
         ensures step { self.new.in_step ≡ self.old.in_step }
     {
         self.session.draw_late();
-        encode(self.session.machine(), bytes);
+        write_state(self.session.machine(), &self.cartridge, bytes);
     }
 
     /// The bytes of the battery file: those of the cartridge's RAM, and 48 more for the clock of MBC3.

@@ -9,6 +9,7 @@ mod error;
 mod game;
 mod host_device;
 mod shades;
+mod states;
 
 pub use console::Console;
 pub use error::{ConsoleError, GameError};
