@@ -201,6 +201,8 @@ def wanted_of(key, known):
     if key == ('whole_lives', 'live') or call.can is None and not call.order and not call.variants & HOLDS_OTHERS:
         return None
     wanted = (call.can if call.can is not None else set(call.order) or call.variants) - HOLDS_OTHERS
+    if key in HANDS_ON:
+        wanted = wanted | set(known.calls[key].order)
     # a play and a stream make moves on a session, which stop for reasons of their own
     if key[1] in ('play', 'stream') and 'make_move' in call.calls:
         wanted = wanted | known.stops
