@@ -13,7 +13,7 @@ import sys
 from pathlib import Path
 
 PROGRAMS = {'bench', 'gbkeep_program', 'refused_memory'}
-# a call that answers what another one answers, and nothing else
+# a call that answers what another one answers, and else only what its body names
 HANDS_ON = {('embedding', f'Game::{name}'): ('session', f'Session::{name}') for name in ('input', 'power', 'restore')}
 
 
