@@ -13,11 +13,9 @@ use Rattle.machine.specs.Machine.{Frame, PassesTime, after}
 use Rattle.machine.proofs.KeptByInputs.{bus_keeps, by_inputs}
 use Rattle.debugging.specs.declared.order.Order.{Order}
 use Rattle.debugging.specs.declared.order.Order.TheVariants.{Frames, Seconds, Step, Until, UntilOpcode, UntilChange, UntilWrite, UntilRead, Set, SetRegister, Registers, History, List as Listing, Memory, Bank, Serial, Picture, State, Digest}
-use Rattle.cartridge.specs.Header.{ram_length_of}
 use Rattle.snapshot.specs.Encoding.{snapshot_length}
 use Rattle.snapshot.specs.Legal.{IsOfImage}
 use Rattle.memory_map.proofs.SameCartridge.{write_same}
-use Rattle.debugging.specs.States.{rom_of}
 use Rattle.debugging.specs.Orders.{order_of}
 use Rattle.debugging.specs.Quiet.{HasRom}
 use Rattle.debugging.specs.Run.{RunState, after_frame, after_frames, after_steps_of, processor_of}
@@ -94,9 +92,6 @@ rom_is size rom old new has before after = record { size = has.size ∙ ap lengt
 
 pub room_is : (size : ℕ) (rom : List ℕ) (old new : RunState) → size ≡ snapshot_length (ram_length old) → IsOfImage rom old.debugger.machine → IsOfImage rom new.debugger.machine → size ≡ snapshot_length (ram_length new)
 room_is size rom old new is before after = is ∙ ap snapshot_length (before.ram_length ∙ sym after.ram_length)
-
-pub room_of : (size : ℕ) (rom : List ℕ) (r : RunState) → size ≡ snapshot_length (ram_length r) → IsOfImage rom r.debugger.machine → size ≡ snapshot_length (ram_length_of (rom_of r))
-room_of size rom r is of = is ∙ ap snapshot_length (of.ram_length ∙ ap ram_length_of (sym of.rom))
 
 pub steps_of_image : (rom : List ℕ) (n : ℕ) (old now : RunState) → now ≡ after_steps_of n old → IsOfImage rom old.debugger.machine → IsOfImage rom now.debugger.machine
 steps_of_image rom n old now is of = subst (λ (x : RunState). IsOfImage rom x.debugger.machine) (sym is) (of_kept rom old (after_steps_of n old) (steps_keep n old) of)
