@@ -148,7 +148,7 @@ class Playing(InFolder):
             save.write_bytes(bytes(length))
             result = run(self.play, DEMO, save, self.script)
             said = b'play: no session: there is no game in SAVE, and it stays as it is: name another file, and a game is begun there\n'
-            self.assertEqual((result.returncode, result.stderr, save.read_bytes()), (1, said, bytes(length)))
+            self.assertEqual((result.returncode, result.stderr, save.read_bytes() == bytes(length)), (1, said, True))
 
     def test_a_recorded_game_is_not_played(self):
         save, recording, mark = (self.folder / name for name in ('save', 'recording', 'save.recorded'))
@@ -162,7 +162,7 @@ class Playing(InFolder):
         held = save.read_bytes(), recording.read_bytes(), mark.read_bytes()
         for name in (save, link):
             result = run(self.play, DEMO, name, self.script)
-            self.assertEqual((save.read_bytes(), recording.read_bytes(), mark.read_bytes()), held)
+            self.assertTrue((save.read_bytes(), recording.read_bytes(), mark.read_bytes()) == held)
             self.assertEqual((result.returncode, result.stdout, result.stderr),
                              (1, b'', b'play: recorded game: play it by `gbkeep record`; to end the recording, remove SAVE.recorded\n'))
         self.gbkeep('verify', DEMO, save, recording)

@@ -395,16 +395,17 @@ def test_a_mark_stays_until_the_new_game_has_its_name(room):
     cartridge(room)
     battery_cartridge(room)
     room.write('some.bat', bytes(RAM))
-    mark = mark_of('game.rec', 1, 3)
-    for command in ('new kept.gb', 'import kept.gb some.bat'):
-        for how in ('error=EIO', 'signal=KILL'):
-            room.write('game.gbkeep.recorded', mark)
-            status, out, _ = traced(room, f'{command} game.gbkeep', '-e', 'trace=rename', '-e', f'inject=rename:{how}')
-            room.expect(f'{command}, {how} at the rename', (status != 0, out, room.read('game.gbkeep.recorded')), (True, b'', mark))
-            (room.folder / 'game.gbkeep').unlink(missing_ok=True)
-        room.done(f'{command} game.gbkeep', 'begun 0\n')
-        room.expect(f'{command}: the mark of the game before', room.size('game.gbkeep.recorded'), None)
-        (room.folder / 'game.gbkeep').unlink()
+    # of three lines and of two
+    for mark in (mark_of('game.rec', 1, 3), b'game.rec\ngbkeep record\n'):
+        for command in ('new kept.gb', 'import kept.gb some.bat'):
+            for how in ('error=EIO', 'signal=KILL'):
+                room.write('game.gbkeep.recorded', mark)
+                status, out, _ = traced(room, f'{command} game.gbkeep', '-e', 'trace=rename', '-e', f'inject=rename:{how}')
+                room.expect(f'{command}, {how} at the rename', (status != 0, out, room.read('game.gbkeep.recorded')), (True, b'', mark))
+                (room.folder / 'game.gbkeep').unlink(missing_ok=True)
+            room.done(f'{command} game.gbkeep', 'begun 0\n')
+            room.expect(f'{command}: the mark of the game before', room.size('game.gbkeep.recorded'), None)
+            (room.folder / 'game.gbkeep').unlink()
 
 
 def test_a_file_that_was_moved_to_the_name_stays(room):
@@ -435,7 +436,7 @@ def test_a_file_that_was_moved_to_the_name_stays(room):
         os.replace(room.folder / 'another', path)
         out, err = slow.communicate(timeout=SECONDS)
         room.expect(f'{command}: a file that was moved there', (slow.returncode, out, err, room.read(name)), (1, b'', f'gbkeep: {fault}\n'.encode(), b'of mine'))
-        path.unlink()
+        path.unlink(missing_ok=True)
 
 
 def test_no_command_waits_for_a_file(room):

@@ -2,13 +2,16 @@
 
 Debian's strace lets a chosen call of a command fail, or kills the program there, and a library of some lines of C, where there is a C
 compiler, cuts a write short. The game in SAVE must be one that the second reader takes up, with every input that was told; CART and
-SCRIPT keep their bytes; and what `new` leaves is a game, or an empty file, which the next `new` takes up."""
+SCRIPT keep their bytes; and what `new` leaves is a game, or an empty file, which the next `new` takes up, and the mark of the game before as long as there
+is no new one."""
 import os, re, subprocess
 import hostile
+import recordings
 from gbkeep import save_files as ref
 from gbkeep.save_files import get, put
 from scripts.doctor import compiler, tries
 
+MARK = hostile.SAVE + '.recorded'
 CALLS = 'openat,read,pread64,write,pwrite64,fsync,flock,ftruncate,statx,rename,unlink'
 FAULTS = {'openat': ['EIO', 'EMFILE', 'EINTR'], 'read': ['EIO', 'EINTR', 'EAGAIN'], 'pread64': ['EIO', 'EINTR'], 'write': ['EIO', 'ENOSPC', 'EINTR', 'EAGAIN'],
           'pwrite64': ['EIO', 'ENOSPC', 'EINTR', 'EDQUOT', 'EFBIG'], 'fsync': ['EIO', 'ENOSPC', 'EINTR'], 'flock': ['ENOLCK', 'EOPNOTSUPP', 'EINTR', 'EIO'],
@@ -134,9 +137,12 @@ def of_new(rnd, seed):
     words = ['new', hostile.CART, hostile.SAVE, str(sectors)]
     made = ref.Game(bytes(512 * sectors), cart)
     made.begin(1, 0, None)
+    mark = rnd.choice([b'game.rec\ngbkeep record\n', recordings.mark_of(b'game.rec', [b'\0\1'] * 3)])
+    put(MARK, mark)
     counts = calls_of(words, b'')
     for _ in range(4):
         hostile.gone(hostile.SAVE)
+        put(MARK, mark)
         options, what = fault_of(rnd, counts)
         status, out, err = traced(words, options)
         left = get(hostile.SAVE) if os.path.exists(hostile.SAVE) else None
@@ -146,6 +152,8 @@ def of_new(rnd, seed):
             return hostile.differs('injected', seed, 'new, %s: %r' % (what, (status, out, err)))
         if left not in (None, b'') and not begun:
             return hostile.differs('injected', seed, 'new, %s: %r, and the file is not whole' % (what, (status, out, err)))
+        if not begun and (not os.path.exists(MARK) or get(MARK) != mark):
+            return hostile.differs('injected', seed, 'new, %s: %r, and the mark of the game before is gone' % (what, (status, out, err)))
         # a file that can't be looked at may be another's by now, and an empty one is taken up by the next `new`
         stays = 'unlink' in what or 'statx' in what and left == b''
         if status == 1 and err != hostile.line('output failed') and (left is not None or parts) and not stays:
@@ -153,6 +161,8 @@ def of_new(rnd, seed):
         again = hostile.gbkeep(*words)
         if again != ((1, b'', hostile.line('device failed')) if begun else (0, b'begun 0\n', b'')) or not hostile.same_file(get(hostile.SAVE), made):
             return hostile.differs('injected', seed, 'the new behind %s: %r' % (what, again))
+        if not begun and os.path.exists(MARK):
+            return hostile.differs('injected', seed, 'the new behind %s leaves the mark of the game before' % what)
 
 
 def of_import(rnd, seed):
@@ -217,3 +227,4 @@ def no_locks(rnd, seed):
 def injected(rnd, seed):
     for what in (of_a_game, of_new, of_import, of_a_game, short_writes, no_locks):
         what(rnd, seed)
+        hostile.gone(MARK)
