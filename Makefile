@@ -22,15 +22,14 @@ SOURCES := crates.txt $(shell find crates -name out -prune -o -type f \( -name '
 LOOK := $(if $(findstring q,$(firstword -$(MAKEFLAGS))),,looked)
 
 help:
-	@echo 'To have it and to play:'
+	@echo 'To have it and to play (in a browser, at http://localhost:8000, with nothing'
+	@echo 'built: python3 -m http.server -d web/page 8000):'
 	@echo '  make build      proves the program and leaves it at bin/gbkeep: 47 minutes'
 	@echo '                  from nothing with two processors, 48 with four, 87 with one'
 	@echo '                  (one crate a processor and 2.5 GB of memory, or JOBS=N)'
 	@echo '  make demo       plays a minute of a small game: bin/demo.gbkeep, bin/demo.png'
 	@echo '  make play       plays a cartridge in a window (CART=examples/demo/demo.gb'
 	@echo '                  SAVE=NAME.gbkeep; without SAVE, in ~/.local/share/gbkeep)'
-	@echo '  make web        leaves dist/web, a page that plays in any browser'
-	@echo '                  (docs/BROWSER.md)'
 	@echo '  make install    puts program, window, tools, man pages and completions, and'
 	@echo '                  what is built of library and core, below PREFIX (~/.local);'
 	@echo '                  LIBDIR=lib64: another folder for libraries'
@@ -40,7 +39,8 @@ help:
 	@echo '  make libretro   leaves bin/gbkeep_libretro.so, a core for RetroArch'
 	@echo '  make library    leaves bin/libgbkeep.a, bin/libgbkeep.so, bin/gbkeep.h and'
 	@echo '                  bin/gbkeep.pc, the library for C'
-	@echo '  make dist       leaves a tarball and Debian packages in dist, and their sums'
+	@echo '  make dist       leaves a tarball, the page and Debian packages in dist, and'
+	@echo '                  their sums'
 	@echo '  make doctor     tells what of all that they need is there, and what each'
 	@echo '                  missing thing costs'
 	@echo '  make clean      removes what make has made in bin and dist, and no game'
@@ -69,8 +69,8 @@ help:
 	@echo '                  writer'
 	@echo '  make memory     refuses each allocation in turn (20 s once both are built)'
 	@echo '  make test-window'
-	@echo '                  plays the demo by real keys in a window of its own, and kills'
-	@echo '                  it (two minutes)'
+	@echo '                  plays in the window on a display of its own, by keys and by'
+	@echo '                  its accessibility tree, and kills it (six minutes)'
 	@echo '  make test-library'
 	@echo '                  plays by the library from C and from Python, under the'
 	@echo '                  sanitizers, and cuts it at each call (a minute)'
@@ -83,9 +83,11 @@ help:
 	@echo '  make test-slow-disk'
 	@echo '                  plays in the window and by the core while each sync takes'
 	@echo '                  300 ms (a minute)'
+	@echo '  make web        renews the module of the page, web/page, where it is older'
+	@echo '                  than its sources (docs/BROWSER.md)'
 	@echo '  make test-web   plays by the page in Chromium, kills it, and gives it wrong'
-	@echo '                  files, a full disk, no network and calls that fail (fifteen'
-	@echo '                  minutes)'
+	@echo '                  files, a full disk, no network and calls that fail; plays in'
+	@echo '                  Firefox and WebKit (fifteen minutes)'
 	@echo '  make test-arm64 runs the program for aarch64 by qemu: tests, damaged files,'
 	@echo '                  comparisons, games from one processor to the other'
 	@echo '                  (SECONDS=20 a kind; after make build ARCH=arm64)'
@@ -179,8 +181,8 @@ demo: bin/gbkeep
 	python3 -B -m gbkeep.png bin/demo.pgm bin/demo.png
 	@echo 'bin/demo.png: the picture at the end of the tour'
 
-# the Python that has pygame: Debian's, where another one comes first
-PYTHON ?= $(shell python3 -c 'import pygame' > /dev/null 2>&1 && echo python3 || echo /usr/bin/python3)
+# the Python that has GTK: Debian's, where another one comes first
+PYTHON ?= $(shell python3 -c 'import gi; gi.require_version("Adw", "1")' > /dev/null 2>&1 && echo python3 || echo /usr/bin/python3)
 CART ?= examples/demo/demo.gb
 
 # a game that is in bin goes on there
@@ -206,24 +208,29 @@ test-library: bin/gbkeep bin/libgbkeep.so
 	python3 -B library/test_library.py bin/gbkeep
 	$(NUMPY_PYTHON) -B python/gbkeep_tests/test_env.py
 
-web: dist/web/gbkeep.wasm
-
-dist/web/gbkeep.wasm: $(SOURCES) $(wildcard library/* web/page/* web/include/* web/*.c web/*.h) web/faults.py scripts/web.py scripts/library.py \
-  python/gbkeep/faults.py examples/demo/demo.gb | $(LOOK)
+web:
 	RT=$(RT) python3 -B scripts/web.py
 
 # the Python that has selenium: Debian's, where another one comes first
 WEB_PYTHON ?= $(shell python3 -c 'import selenium' > /dev/null 2>&1 && echo python3 || echo /usr/bin/python3)
 
-test-web: bin/gbkeep dist/web/gbkeep.wasm
+# where the module of web/page is of other sources, a page with one of these is tried, too
+test-web: bin/gbkeep
 	CC="$(CC)" python3 -B web/test_heap.py
 	python3 -B web/test_module.py
-	$(WEB_PYTHON) -B web/test_web.py bin/gbkeep
-	$(WEB_PYTHON) -B web/test_kept_games.py bin/gbkeep
-	$(WEB_PYTHON) -B web/test_versions.py bin/gbkeep
-	$(WEB_PYTHON) -B web/test_page_faults.py bin/gbkeep
+	if python3 -B scripts/doctor.py --try 'the scripts of the page, by eslint' eslint; then \
+	NODE_PATH=/usr/share/nodejs eslint --format unix --ext .js,.mjs web; fi
+	if python3 -B scripts/doctor.py --try 'each cut of the acts on a game' node; then ALL=1 node --test web/tests/kills.test.mjs; fi
+	pages=$$(RT=$(RT) python3 -B scripts/web.py pages) && for page in $$pages; do export PAGE="$$page"; \
+	$(WEB_PYTHON) -B web/test_web.py bin/gbkeep && \
+	$(WEB_PYTHON) -B web/test_view.py bin/gbkeep && \
+	$(WEB_PYTHON) -B web/test_kept_games.py bin/gbkeep && \
+	$(WEB_PYTHON) -B web/test_versions.py bin/gbkeep && \
+	$(WEB_PYTHON) -B web/test_page_faults.py bin/gbkeep && \
+	$(WEB_PYTHON) -B web/test_engines.py bin/gbkeep || exit 1; done
 
 dist: $(OUT)/gbkeep $(OUT)/libgbkeep.so $(if $(wildcard $(LIBRETRO)/libretro.h),$(OUT)/gbkeep_libretro.so)
+	$(if $(ARCH),,RT=$(RT) python3 -B scripts/web.py bin/web)
 	RT=$(RT) python3 -B packaging/dist.py $(ARCH)
 
 test-arm64: bin/gbkeep bin/arm64/gbkeep
@@ -271,6 +278,9 @@ test:
 	python3 -B scripts/front_door.py
 	python3 -B packaging/completions.py check
 	python3 -B examples/speed/build.py check
+	python3 -B scripts/page.py check
+	if python3 -B scripts/doctor.py --try 'the parts of the page that need no browser' node; then node --test web/tests/; fi
+	if python3 -B scripts/doctor.py --try 'the types of the scripts of the page' tsc; then tsc -p web/jsconfig.json; fi
 	python3 -B scripts/speed_chart.py check
 	python3 -B scripts/refusals.py
 	python3 -B scripts/definitions.py public
@@ -287,12 +297,14 @@ test:
 	$(PIL_PYTHON) -B python/gbkeep_tests/test_players.py $(PROGRAM)/out/gbkeep_program
 	python3 -B python/gbkeep_tests/test_slots.py $(PROGRAM)/out/gbkeep_program
 	python3 -B python/gbkeep_tests/test_shown_game.py $(PROGRAM)/out/gbkeep_program
-	python3 -B python/gbkeep_tests/test_window_parts.py
+	python3 -B python/gbkeep_tests/test_desktop_model.py
 	$(NUMPY_PYTHON) -B python/gbkeep_tests/test_package.py
 	$(PIL_PYTHON) -B python/gbkeep_tests/test_pictures.py
 	CC="$(CC)" python3 -B packaging/test_installed.py
 	python3 -B packaging/test_completions.py
 	python3 -B web/test_module.py
+	if python3 -B scripts/page.py is-current && python3 -B scripts/doctor.py --try 'the module of the page, in Node' node; then \
+	python3 -B web/test_engines.py $(PROGRAM)/out/gbkeep_program node; fi
 	if python3 -B scripts/doctor.py --try 'the library for C' cc ar; then RT=$(RT) CC="$(CC)" python3 -B scripts/library.py gate && \
 	CC="$(CC)" python3 -B library/test_library.py $(PROGRAM)/out/gbkeep_program && \
 	$(NUMPY_PYTHON) -B python/gbkeep_tests/test_env.py; fi

@@ -5,8 +5,10 @@ usage: test_library.py GBKEEP [LIBRARY]     LIBRARY: a folder with all that `mak
 CC names the C compiler. Where it has the sanitizers, play.c is built with them."""
 import array
 import contextlib
+import ctypes
 import hashlib
 import itertools
+import json
 import os
 import random
 import shlex
@@ -24,6 +26,7 @@ from unittest import mock
 HERE = Path(__file__).resolve().parent
 TOP = HERE.parent
 from gbkeep import AnyGame, AnyMachine, DebugMachine, Game, Machine, NoState, Picture, Refused, Session, header_of, save_files, sectors_needed
+from gbkeep.library import find_library
 from scripts.doctor import tries
 from scripts.not_tried import note
 
@@ -36,6 +39,21 @@ CART = save_files.Cartridge(ROM)
 # what each state begins with; another ROM has the same controller and RAM
 HEADER = b'GBSTATE1' + hashlib.sha256(ROM).digest()
 OTHER_ROM = ROM[:-1] + bytes([ROM[-1] ^ 1])
+# a process that saves behind each frame: of each quarter the bytes of its memory and its seconds
+LONG_SESSION = """
+import json, sys, time
+from gbkeep import Session
+session = Session(sys.argv[1])
+def some():
+    began = time.process_time()
+    for _ in range(4000):
+        session.frames(0)
+        session.save()
+        for call in session.calls():
+            pass
+    return int(open('/proc/self/statm').read().split()[1]) * 4096, time.process_time() - began
+print(json.dumps([some() for _ in range(4)]))
+"""
 # codes of gbkeep.h
 DONE, DAMAGED_SNAPSHOT, OTHER_CARTRIDGE, SAVE_FIRST = 0, 6, 10, 15
 
@@ -430,6 +448,67 @@ class InPython(InFolder):
         self.assertEqual(refused.exception.code, 20)
         with self.assertRaises(Refused):
             Session(ROM, bytes(SECTOR * 300), battery=bytes(CART.ram))
+
+    def test_a_save_that_is_refused_adds_and_loses_no_input(self):
+        # the last generation is that of the session: a power switch has none to be saved in, a frame has the log
+        with Machine(ROM) as machine:
+            snapshot = machine.state()[len(HEADER):]
+        game = save_files.Game(bytes(SECTOR * sectors_needed(ROM)), CART)
+        game.begin(2 ** 64 - 2, 7, snapshot)
+        with Session(ROM, bytes(game.image)) as session:
+            begun = [*session.calls()]
+            self.assertEqual((len(begun) > 0, begun[-1].bytes, session.count), (True, None, 7))
+            session.frames(0)
+            self.assertEqual(session.save(), 8)
+            self.assertEqual([call.bytes is None for call in session.calls()], [False, True])
+            session.power()
+            session.frames(0x80)
+            state = session.state()
+            for _ in range(2):
+                with self.assertRaises(Refused) as refused:
+                    session.save()
+                self.assertEqual((refused.exception.code, session.count, session.state(), [*session.calls()]), (13, 10, state, []))
+            disk = bytearray(game.image)
+            for call in begun:
+                if call.bytes is not None:
+                    disk[call.sector * SECTOR:(call.sector + 1) * SECTOR] = call.bytes
+            self.assertEqual((save_files.chosen_root(disk)['generation'], save_files.looked_at(disk, CART, False)[0]), (2 ** 64 - 1, 7))
+            with self.assertRaises(Refused) as refused:
+                Session(ROM, bytes(disk))
+            self.assertEqual(refused.exception.code, 13)
+
+    def test_a_long_session_takes_the_memory_and_the_time_of_a_short_one(self):
+        printed = run(sys.executable, '-B', '-c', LONG_SESSION, DEMO, check=True).stdout
+        (first, quick), *_, (last, slow) = json.loads(printed)
+        self.assertLess(last - first, 2 ** 20, printed)
+        self.assertLess(slow, 3 * quick + 0.5, printed)
+
+    def test_a_session_that_is_refused_leaves_none(self):
+        library, sectors = ctypes.CDLL(find_library()), sectors_needed(ROM)
+        new = Session(ROM)
+        disk = bytearray(SECTOR * sectors)
+        for call in new.calls():
+            if call.bytes is not None:
+                disk[call.sector * SECTOR:(call.sector + 1) * SECTOR] = call.bytes
+        new.close()
+        rom, battery, image = ROM, bytes(3), bytes(disk)
+        for code, name, *given in ((9, 'begin', ctypes.c_uint32(3)), (2, 'begin', ctypes.c_uint32(sectors)),
+                                   (21, 'import', battery, ctypes.c_size_t(3), ctypes.c_uint32(sectors)),
+                                   (17, 'resume', image, ctypes.c_size_t(1000)), (8, 'resume', bytes(len(image)), ctypes.c_size_t(len(image)))):
+            taken = rom[:100] if code == 2 else rom
+            out = ctypes.c_void_p(0x1234)
+            call = getattr(library, f'gbkeep_session_{name}')
+            self.assertEqual((call(taken, ctypes.c_size_t(len(taken)), *given, ctypes.byref(out)), out.value), (code, None), name)
+        # and one that is not refused has as many sectors as were asked for
+        for more in (0, 1, 100):
+            with Session(ROM, sectors=sectors + more) as session:
+                session.frames(0, 3)
+                session.save()
+                disk = bytearray(SECTOR * (sectors + more))
+                for one in session.calls():
+                    if one.bytes is not None:
+                        disk[one.sector * SECTOR:(one.sector + 1) * SECTOR] = one.bytes
+                self.assertEqual(save_files.looked_at(disk, CART)[0], 3)
 
     def test_each_prefix_of_the_calls_and_each_subset_stands_for_what_was_told(self):
         chance = random.Random(1)

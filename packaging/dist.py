@@ -1,6 +1,6 @@
 """Leaves in dist/ what somebody without the toolchain needs: a tarball, Debian packages, their sums, and what is known of how they were made.
 
-usage: dist.py [arm64]         makes dist/ of what bin has and the clone, or dist/arm64 of bin/arm64
+usage: dist.py [arm64]         makes dist/ of what bin has and the clone, and the page of bin/web; or dist/arm64 of bin/arm64
        dist.py begins          the gate begins: what an earlier one has left is gone
        dist.py passed GBKEEP   the gate has passed, with this program: keeps that in bin/gate_passed, and the program as bin/gbkeep
 
@@ -19,11 +19,12 @@ import time
 from pathlib import Path
 
 import installed
+from scripts import page
 from scripts.doctor import needed, tries
 
 RT = os.environ.get('RT', 'rt')
 GATE, BEGUN = Path('bin/gate_passed'), Path('bin/gate_begun')
-DIST, PROGRAM = Path('dist'), Path('bin/gbkeep')
+DIST, PROGRAM, WEB = Path('dist'), Path('bin/gbkeep'), Path('bin/web')
 VERSION = installed.version()
 NO_LICENCE = 'No licence is given yet: ask before you copy, change or pass on gbkeep.\n'
 
@@ -82,8 +83,8 @@ def asked_for(package):
     tools = {module: installed.package_of(tool) for tool, module in installed.tools().items()}
     modules = [path.stem for path in sorted((installed.SOURCES / 'gbkeep').glob('*.py')) if tools.get(path.stem, installed.PYTHON) == package]
     asked = [installed.asked_for(module) for module in modules]
-    needed = {one for needs, _ in asked for one in needs.values()}
-    return sorted(needed), sorted({one for _, named in asked for one in named} - needed)
+    needed = {one for needs, also, _ in asked for one in (*needs.values(), *also)}
+    return sorted(needed), sorted({one for *_, named in asked for one in named} - needed)
 
 
 def relation(name, *packages):
@@ -98,7 +99,7 @@ def packed(data):
 def compiled(package):
     """The scripts of a package of Python: its modules are compiled as it is installed, and what was compiled goes before it does."""
     return [('postinst', f'#!/bin/sh\nset -e\nif command -v py3compile > /dev/null 2>&1; then py3compile -p {package}; fi\n'),
-            ('prerm', f'#!/bin/sh\nset -e\nif command -v py3clean > /dev/null 2>&1; then py3clean -p {package}; else rm -rf /usr/{installed.DEBIAN}/gbkeep/__pycache__; fi\n')]
+            ('prerm', f'#!/bin/sh\nset -e\nif command -v py3clean > /dev/null 2>&1; then py3clean -p {package}; else find /usr/{installed.DEBIAN}/gbkeep -name __pycache__ -exec rm -rf {{}} +; fi\n')]
 
 
 class Release:
@@ -144,9 +145,25 @@ class Release:
         """All of it, to be copied below any folder."""
         top = f'gbkeep-{VERSION}'
         readme = f'gbkeep {VERSION}: copy bin, include, lib and share below /usr/local or ~/.local; share/doc/gbkeep/README.md says the rest.\n{NO_LICENCE}'
+        self.pack(top, f'{top}-linux-{self.machine}', [*self.plain, installed.File('gbkeep', 'README', readme.encode())])
+
+    def page(self):
+        """The page, for any web server. What is told of its module."""
+        for line in page.stale(WEB):
+            sys.exit(f'dist.py: {WEB}: {line}')
+        if not page.is_of_sources(WEB):
+            sys.exit(f'dist.py: the module in {WEB} is of other sources: python3 -B scripts/web.py {WEB} makes it')
+        module, tracked = page.module_in(WEB), page.module_in(page.PAGE)
+        if page.is_of_sources() and module != tracked:
+            sys.exit('dist.py: the module in web/page is not what its sources give')
+        self.pack(f'gbkeep-{VERSION}-web', f'gbkeep-{VERSION}-web', [installed.File('gbkeep', path.name, path.read_bytes()) for path in WEB.iterdir()])
+        return f"page's module: sha256 {hashlib.sha256(module).hexdigest()}, {'as it is tracked' if module == tracked else 'newer than the tracked one'}\n"
+
+    def pack(self, top, name, files):
+        """A tarball of files below a folder."""
         folders = set()
-        with gzip.GzipFile(self.folder / f'{top}-linux-{self.machine}.tar.gz', 'wb', mtime=self.second) as file, tarfile.open(fileobj=file, mode='w') as tar:
-            for one in sorted([*self.plain, installed.File('gbkeep', 'README', readme.encode())], key=lambda one: one.path):
+        with gzip.GzipFile(self.folder / f'{name}.tar.gz', 'wb', mtime=self.second) as file, tarfile.open(fileobj=file, mode='w') as tar:
+            for one in sorted(files, key=lambda one: one.path):
                 for parent in reversed(Path(top, one.path).parents[:-1]):
                     if parent not in folders:
                         folders.add(parent)
@@ -216,7 +233,7 @@ class Release:
         self.package('gbkeep-window', f'Section: otherosfs\n{every}{relation("Depends", own, *needed, "python3")}'
                      f'{relation("Recommends", "desktop-file-utils", *named, "shared-mime-info")}'
                      "Description: window and player's tools for gbkeep\n"
-                     ' gbkeep-window plays a game of gbkeep by keyboard. gbkeep-script reads scripts\n that are easier to write, gbkeep-rest goes on with a'
+                     ' gbkeep-window plays games of gbkeep in a window. gbkeep-script reads scripts\n that are easier to write, gbkeep-rest goes on with a'
                      ' script where a save file\n stands, gbkeep-movie reads and writes movies of other emulators, gbkeep-film\n makes a film of a script or a'
                      ' recording, gbkeep-branch a new game of the first\n inputs of a recording, gbkeep-verify compares a game with its recording,\n gbkeep-battery'
                      ' carries battery files to other emulators and back, and\n gbkeep-png makes a PNG of a picture.\n')
@@ -253,6 +270,10 @@ def main(is_arm64):
         if path.is_file():
             path.unlink()
     release.tarball()
+    if WEB.is_dir() and not is_arm64:
+        release.about = release.about.replace(NO_LICENCE, release.page() + NO_LICENCE)
+    elif not is_arm64:
+        print(f'without the page: python3 -B scripts/web.py {WEB} makes it')
     for without in release.packages():
         print(f'without {without}')
     # of BUILT there is no sum: when the gate ran is another thing in each clone

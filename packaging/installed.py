@@ -60,10 +60,12 @@ def package_of(tool: str) -> str:
     return TESTERS if tool in OF_TESTERS else WINDOW
 
 
-def asked_for(module: str) -> tuple[dict[str, str], set[str]]:
-    """What a module says of itself: the other packages that it needs, each with that of Debian's; and all of Debian's that it names."""
+def asked_for(module: str) -> tuple[dict[str, str], set[str], set[str]]:
+    """What a module says of itself: the other packages that it needs, each with that of Debian's; those of Debian's that these have to come with; and all of
+    Debian's that it names."""
     said = ' '.join(said_of(SOURCES / f'gbkeep/{module}.py').split())
-    return dict(re.findall(r"\bneeds (\w+) \(Debian's package ([\w-]+)\)", said)), set(re.findall(r"\(Debian's package ([\w-]+)\)", said))
+    package = r"\(Debian's package ([\w.+-]+)\)"
+    return dict(re.findall(rf'\bneeds (\w+) {package}', said)), set(re.findall(rf'\bwith [\w ]+ {package}', said)), set(re.findall(package, said))
 
 
 def files(built: Optional[object] = 'bin', lib: str = 'lib', prefix: str = '/usr', modules: str = ALONE) -> list[File]:
@@ -95,7 +97,7 @@ def files(built: Optional[object] = 'bin', lib: str = 'lib', prefix: str = '/usr
     found += [one(PROGRAM, f'share/zsh/{zsh}/_gbkeep', 'completions/_gbkeep')]
     for name, module in tools().items():
         found += tool(name, module)
-    found += [one(PYTHON, f'{modules}/gbkeep/{path.name}', path) for path in sorted([*(SOURCES / 'gbkeep').glob('*.py'), SOURCES / 'gbkeep/py.typed'])]
+    found += [one(PYTHON, f'{modules}/{path.relative_to(SOURCES)}', path) for path in sorted([*(SOURCES / 'gbkeep').rglob('*.py'), SOURCES / 'gbkeep/py.typed'])]
     if modules == ALONE:
         found += [one(PYTHON, f'{ALONE}/gbkeep_launcher.py', 'packaging/launcher.py')]
     found += [File(WINDOW, 'share/applications/gbkeep.desktop', desktop_entry(prefix if modules == ALONE else '').encode()),

@@ -335,14 +335,14 @@ def test_which_python(folder: Path) -> None:
         expect(f'{name}: what was started', pythons.names(), [path[0].name])
     pythons.started('gbkeep-script', [lacks, has], '--help')
     expect('a tool that needs nothing', pythons.names(), ['lacks'])
-    expect('what the window needs', "start('window', 'pygame')" in (pythons.prefix / 'share/gbkeep/gbkeep-window').read_text(), True)
+    expect('what the window needs', "start('window', 'gi')" in (pythons.prefix / 'share/gbkeep/gbkeep-window').read_text(), True)
     # without streams
     line = f'exec {shlex.quote(str(pythons.prefix))}/bin/gbkeep-told <&- >&- 2>&-'
     ran(['sh', '-c', line], folder, PATH=f'{lacks}:{has}:/usr/bin:/bin', STARTED=str(pythons.log))
     expect('without streams', pythons.names()[-1], 'has')
     # the window, which looks for its program next
-    if ran(['/usr/bin/python3', '-c', 'import pygame'])[0] != 0:
-        raise unittest.SkipTest('the window by the system\'s Python: python3-pygame is missing')
+    if ran(['/usr/bin/python3', '-c', "import gi; gi.require_version('Adw', '1')"])[0] != 0:
+        raise unittest.SkipTest('the window by the system\'s Python: gir1.2-adw-1 is missing')
     status, out, err = pythons.started('gbkeep-window', [lacks], 'none.gb', GBKEEP='/nowhere/gbkeep')
     expect('the window is started', (status, out, err.startswith("/nowhere/gbkeep can't be run"), err.count('\n')), (1, '', True, 1))
 
@@ -365,8 +365,8 @@ def test_no_python(folder: Path) -> None:
         env = {'PATH': os.pathsep.join(map(str, [*path, tools])), 'STARTED': str(pythons.log)}
         return ran([pythons.prefix / 'bin' / name, 'game.gb'], folder, env)
 
-    expect('no pygame', started('gbkeep-window', pythons.lacks, pythons.old, pythons.fails),
-           (1, '', "gbkeep-window: pygame is missing: install Debian's package python3-pygame\n"))
+    expect('no GTK', started('gbkeep-window', pythons.lacks, pythons.old, pythons.fails),
+           (1, '', "gbkeep-window: GTK 4 is missing: install Debian's packages python3-gi, gir1.2-gtk-4.0 and gir1.2-adw-1\n"))
     too_old = 1, 'gbkeep-told: this is Python 3.8, and 3.10 or a later one is needed\n'
     expect('too old', started('gbkeep-told', pythons.old)[::2], too_old)
     expect('an old one alone has it', started('gbkeep-told', pythons.old, pythons.lacks)[::2], too_old)
@@ -458,7 +458,9 @@ def test_packages(folder: Path) -> None:
         expect(f'{owner} says what {name} does', name in fields[owner]['Description'], True)
         for module, package in re.findall(r"needs (\w+) \(Debian's package ([\w-]+)\)", helps[name]):
             expect(f'{owner} has what {name} needs', package in fields[owner]['Depends'].split(', '), True)
-    expect('the window', 'python3-pygame' in fields['gbkeep-window']['Depends'], True)
+    depends, recommends = (fields['gbkeep-window'][name].split(', ') for name in ('Depends', 'Recommends'))
+    expect('the window', {'python3-gi', 'gir1.2-gtk-4.0', 'gir1.2-adw-1'} <= set(depends), True)
+    expect('its gamepads', 'gir1.2-manette-0.2' in recommends, True)
     expect('testers need no PIL', 'python3-pil' in fields['gbkeep-testers']['Depends'], False)
     names_pil = any('python3-pil' in helps[name] for name in installed.OF_TESTERS)
     expect('testers are told of PIL where a tool names it', 'python3-pil' in fields['gbkeep-testers'].get('Recommends', ''), names_pil)

@@ -173,7 +173,7 @@ def try_it(system, count):
     """What a user does first; the game has so many inputs before."""
     said = system.run('sh', '-c', GAME)
     expect('a game goes on', f'resumed {count}\n' in said, True)
-    expect('the window', 'Plays a game in a window' in system.run('gbkeep-window', '--help'), True)
+    expect('the window', 'Plays games in a window' in system.run('gbkeep-window', '--help'), True)
     expect('its type', 'gbkeep.desktop' in next(line for line in (system.root / 'usr/share/applications/mimeinfo.cache').read_text().splitlines()
                                               if line.startswith('application/x-gameboy-rom=')), True)
     expect('a game that is opened', 'application/x-gameboy-rom:*.gb' in (system.root / 'usr/share/mime/globs').read_text(), True)

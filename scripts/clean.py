@@ -31,8 +31,9 @@ PICTURES = {'demo.pgm': b'P2', 'demo.png': b'\x89PNG'}
 MADE = {'bin': {**PROGRAMS, **NOTES, **PICTURES}, 'bin/arm64': PROGRAMS}
 LINKS = {'libgbkeep.so.0': 'libgbkeep.so'}
 DISTS = ('dist', 'dist/arm64')
-# what web.py puts beside the files of web/page, one of which says that the folder was made here
-PAGE, MARK, MADE_FOR_PAGE = 'dist/web', 'files.js', ('gbkeep.wasm', 'faults.js', 'files.js')
+# pages that were made: their lists say so, and have the SHA-256 of each file but these, which begin as here
+PAGES, LIST, MARK = ('dist/web', 'bin/web'), 'files.js', re.compile(rb'// Made by scripts/(web|page)\.py: .*\n')
+NOT_LISTED = {'README': b'gbkeep in a browser\n', 'service_worker.js': b'// The page without a network', 'gbkeep.wasm.of': b'module: '}
 COPY = re.compile('build-[0-9a-f]{8}')
 # as long as a person waits for a size
 SECONDS = 2.0
@@ -134,20 +135,32 @@ def made() -> Iterator[Path]:
                 if begins(path, 1) is not None and hashlib.sha256(path.read_bytes()).hexdigest() == wanted:
                     yield path
             yield from (folder / 'BUILT', folder / 'SHA256SUMS')
-    page = Path(PAGE)
-    if not page.is_symlink() and (begins(page / MARK, 26) or b'').startswith(b'// Made by scripts/web.py:'):
-        demo = page / 'demo.gb'
-        if begins(demo, 1 << 20) == Path('examples/demo/demo.gb').read_bytes():
-            yield demo
-        names = [path.name for path in Path('web/page').iterdir()]
-        yield from (page / name for name in [*names, *MADE_FOR_PAGE] if begins(page / name, 1) is not None)
+    for page in map(Path, PAGES):
+        listed = begins(page / LIST, 1 << 20) or b''
+        if not page.is_symlink() and MARK.match(listed):
+            for name, wanted in digests(listed).items():
+                path = page / os.path.basename(name)
+                if begins(path, 1) is not None and hashlib.sha256(path.read_bytes()).hexdigest() == wanted:
+                    yield path
+            yield from (page / name for name, head in NOT_LISTED.items() if (begins(page / name, len(head)) or b'') == head)
+            yield page / LIST
+
+
+def digests(listed: bytes) -> 'dict[str, str]':
+    """The files of a page and their digests, as its list has them."""
+    found = re.search(rb'^const FILES = (\{.*\});$', listed, re.MULTILINE)
+    try:
+        files = json.loads(found[1]) if found else {}
+    except ValueError:
+        return {}
+    return {name: wanted for name, wanted in files.items() if name != './'}
 
 
 def clean() -> None:
     gone = list(made())
     for path in gone:
         path.unlink()
-    for folder in ('bin/arm64', PAGE, *reversed(DISTS), 'bin'):
+    for folder in ('bin/arm64', *PAGES, *reversed(DISTS), 'bin'):
         # one that holds anything stays
         if Path(folder).is_dir() and not Path(folder).is_symlink() and not os.listdir(folder):
             os.rmdir(folder)

@@ -61,6 +61,13 @@ def has_module(name, variable):
     return any(is_done(python, '-c', asks) for python in ([given] if given else ['python3', '/usr/bin/python3']))
 
 
+def has_typelib(name, version):
+    """Whether the Python of the window has a library of GTK's kind, or else Debian's."""
+    given = os.environ.get('PYTHON')
+    asks = 'import gi; gi.require_version("%s", "%s")' % (name, version)
+    return any(is_done(python, '-c', asks) for python in ([given] if given else ['python3', '/usr/bin/python3']))
+
+
 @functools.lru_cache(None)
 def kit():
     """The toolchain's folder, or None."""
@@ -117,13 +124,20 @@ NEEDS = {
     'C library for aarch64': Need('libc6-dev-arm64-cross', cross_libc),
     'binutils for aarch64': command('binutils-aarch64-linux-gnu', *('aarch64-linux-gnu-' + name for name in ('ar', 'objdump', 'readelf', 'strip'))),
     'git': command('git', 'git'),
+    'node': command('nodejs', 'node'),
+    'tsc': command('node-typescript', 'tsc'),
+    'eslint': command('eslint', 'eslint'),
     'bash': command('bash', 'bash'),
     'pyflakes3': command('pyflakes3', 'pyflakes3'),
     'a terminal': Need('', has_terminals, 'no process gets one of its own here: /dev/pts has to be mounted'),
     'strace': Need('strace', lambda: found('strace') and is_done('strace', '-o', '/dev/null', 'true'), other_way='or it may follow no process'),
     'unshare': Need('util-linux', lambda: found('unshare') and is_done('unshare', '--mount', 'true'), other_way='or it is refused here'),
     'valgrind': command('valgrind', 'valgrind'),
-    'pygame': Need('python3-pygame', lambda: has_module('pygame', 'PYTHON'), 'PYTHON=NAME names the Python that has it'),
+    'GTK': Need('python3-gi gir1.2-gtk-4.0 gir1.2-adw-1', lambda: has_typelib('Adw', '1'), 'PYTHON=NAME names the Python that has it'),
+    'Atspi': Need('gir1.2-atspi-2.0 at-spi2-core', lambda: has_typelib('Atspi', '2.0'), 'PYTHON=NAME names the Python that has it'),
+    'openbox': command('openbox', 'openbox'),
+    'dbus-run-session': command('dbus-daemon', 'dbus-run-session'),
+    'import': command('imagemagick', 'import'),
     'selenium': Need('python3-selenium', lambda: has_module('selenium', 'WEB_PYTHON'), 'WEB_PYTHON=NAME names the Python that has it'),
     'PIL': Need('python3-pil', lambda: has_module('PIL', 'PIL_PYTHON'), 'PIL_PYTHON=NAME names the Python that has it'),
     'numpy': Need('python3-numpy', lambda: has_module('numpy', 'NUMPY_PYTHON'), 'NUMPY_PYTHON=NAME names the Python that has it'),
@@ -133,6 +147,7 @@ NEEDS = {
     'chromium': command('chromium', 'chromium'),
     'chromedriver': command('chromium-driver', 'chromedriver'),
     'firefox-esr': command('firefox-esr', 'firefox-esr'),
+    'WebKitWebDriver': command('webkit2gtk-driver', 'WebKitWebDriver'),
     'lintian': command('lintian', 'lintian'),
     'desktop-file-validate': command('desktop-file-utils', 'desktop-file-validate'),
     'debootstrap': command('debootstrap', 'debootstrap'),
@@ -159,20 +174,19 @@ FILES = {
     'bin/arm64/libgbkeep.so': (ARM64, ()),
     'bin/gbkeep_libretro.so': (('cc', 'libretro.h'), ('bin/libgbkeep.so',)),
     'bin/arm64/gbkeep_libretro.so': (('gcc for aarch64', 'C library for aarch64', 'binutils for aarch64', 'libretro.h'), ('bin/arm64/libgbkeep.so',)),
-    'dist/web/gbkeep.wasm': (('rt', 'clang of rt'), ()),
 }
-WINDOW = ('Xvfb', 'xdotool', 'pygame')
+WINDOW = ('Xvfb', 'xdotool', 'openbox', 'dbus-run-session', 'import', 'GTK', 'Atspi')
 # what a target needs, and of which files it is made or run
 TARGETS = {
     'build': ((), ('OUT/gbkeep',)),
     'demo': ((), ('bin/gbkeep',)),
-    'play': (('pygame',), ('bin/gbkeep',)),
+    'play': (('GTK',), ('bin/gbkeep',)),
     'install': ((), ('OUT/gbkeep',)),
     'uninstall': ((), ()),
     'libretro': ((), ('OUT/gbkeep_libretro.so',)),
     'library': ((), ('OUT/libgbkeep.so',)),
-    'web': ((), ('dist/web/gbkeep.wasm',)),
-    'dist': (('rt', 'git', 'dpkg-deb', 'strip'), ('OUT/gbkeep', 'OUT/libgbkeep.so')),
+    'web': (('rt', 'clang of rt'), ()),
+    'dist': (('rt', 'clang of rt', 'git', 'dpkg-deb', 'strip'), ('OUT/gbkeep', 'OUT/libgbkeep.so')),
     'run': (('rt',), ()),
     'check': (('rt',), ()),
     'edits': (('rt',), ()),
@@ -192,7 +206,7 @@ TARGETS = {
     'test-reproducible': (('rt', 'git', 'dpkg-deb', 'strip', 'cc', 'ar', 'libretro.h'), ()),
     'test-slow-disk': (('cc', *WINDOW), ('bin/gbkeep', 'bin/gbkeep_libretro.so')),
     'test-cards': (('root', 'KERNEL', 'qemu-system-x86_64', 'busybox', 'mkfs.exfat', 'mkfs.vfat', 'mcopy', 'mount.exfat-fuse'), ('bin/gbkeep',)),
-    'test-web': (('cc', 'selenium', 'chromium', 'chromedriver'), ('bin/gbkeep', 'dist/web/gbkeep.wasm')),
+    'test-web': (('cc', 'selenium', 'chromium', 'chromedriver'), ('bin/gbkeep',)),
     'test-libretro': (('cc', 'libretro.h', 'sanitizers'), ('bin/gbkeep', 'bin/gbkeep_libretro.so')),
     'test-retroarch': (('retroarch', 'Xvfb'), ('bin/gbkeep', 'bin/gbkeep_libretro.so')),
 }
@@ -204,6 +218,8 @@ LEFT_OUT = {
         'pyflakes3': 'no Python is looked at',
         'a terminal': 'nothing is typed at a shell or a prompt',
         'git': 'no commit is told as the one that has passed',
+        'node': 'no part of the page is run, and its module is not compared with one of 64 bits',
+        'tsc': 'the types of the scripts of the page are not looked at',
         'strace': 'no system call is followed, or made to fail',
         'cc': 'the library for C and the core are not tried, no allocation is refused, no write is cut short, no call of a tool fails',
         'ar': 'the library for C and the core are not tried',
@@ -220,7 +236,9 @@ LEFT_OUT = {
     'hostile': {'strace': 'no system call is made to fail', 'cc': 'no write is cut short',
                 'root': 'files of others, a small disk and a root without /dev are not tried'},
     'test-library': {'sanitizers': 'it is tried without them'},
-    'test-web': {'strace': 'no call of a save is followed', 'firefox-esr': 'Firefox is not tried', 'sanitizers': 'the heap is tried without them'},
+    'test-web': {'strace': 'no call of a save is followed', 'firefox-esr': 'Firefox is not tried', 'WebKitWebDriver': 'WebKit is not tried',
+                 'Xvfb': 'WebKit is not tried', 'node': 'Node is not tried, nor each cut of the acts on a game',
+                 'eslint': 'the scripts of the page are not looked at by it', 'sanitizers': 'the heap is tried without them'},
     'test-arm64': {'qemu-aarch64': 'no instruction is counted', 'valgrind': 'no instruction of this computer is counted', 'libretro.h': 'the core is not tried',
                    'cc': 'the core is not tried'},
     'dist': {'libretro.h': 'there is no package of the core', 'cc': 'there is no package of the core'},
@@ -275,7 +293,8 @@ def parts_of(target, arm64):
     if target == 'dist':
         # the package of the core is made where the core can be
         files += ('OUT/gbkeep_libretro.so',) * is_there('libretro.h')
-        own = tuple('binutils for aarch64' if arm64 and need == 'strip' else need for need in own)
+        # the page is made for all computers with what is made for this one
+        own = tuple('binutils for aarch64' if arm64 and need == 'strip' else need for need in own if not (arm64 and need == 'clang of rt'))
     return own, [name.replace('OUT', 'bin/arm64' if arm64 else 'bin') for name in files]
 
 

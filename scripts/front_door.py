@@ -4,7 +4,7 @@ Python and its tools say of it. Then it deletes each row of each table, in turn 
 usage: front_door.py             at the top of the repository
        front_door.py GBKEEP      this too: runs each command block as it stands, in a copy of the clone, and compares what it prints;
                                  compares the program's helps; installs it all below a folder; completes a name with a space in a shell"""
-import definitions, functools, os, pty, re, select, shutil, subprocess, sys, tempfile, time
+import definitions, functools, hashlib, json, os, pty, re, select, shutil, subprocess, sys, tempfile, time, urllib.request
 from pathlib import Path
 
 from scripts.doctor import tries
@@ -272,6 +272,24 @@ def shell(room, line, path=''):
     return done.returncode, done.stdout
 
 
+def served(room, line):
+    """What is wrong with a line that serves a folder: at another port, it gives each file of the page's list as the list has it."""
+    env = {name: value for name, value in os.environ.items() if name != 'PYTHONPATH'} | {'PYTHONUNBUFFERED': '1'}
+    words = line.split()[:-1] + ['0']
+    server = subprocess.Popen([sys.executable, *words[1:]], cwd=room, env=env, stdout=subprocess.PIPE, stderr=subprocess.DEVNULL, text=True)
+    try:
+        said = server.stdout.readline()
+        port = re.search(r'port (\d+)', said)
+        if not port:
+            return [f'{line}: {said}']
+        files = json.loads(re.search(r'^const FILES = (.*);$', Path(room, 'web/page/files.js').read_text(), re.M)[1])
+        found = {name: hashlib.sha256(urllib.request.urlopen(f'http://localhost:{port[1]}/{name}', timeout=60).read()).hexdigest() for name in files}
+        return [f'{line}: {name} is not as it is listed' for name in files if found[name] != files[name]]
+    finally:
+        server.kill()
+        server.communicate()
+
+
 def clone(room, program):
     """What of the clone the blocks need, with this program at bin/gbkeep."""
     for path in ('README.md', 'Makefile', 'crates.txt', 'examples', 'players', 'python', 'library', 'docs', 'completions', 'packaging', 'scripts', 'web'):
@@ -294,7 +312,9 @@ def run_blocks(program, texts):
                 clone(room, program)
                 for line, wanted in block:
                     count += 1
-                    if line.startswith('make ') and not line.startswith('make demo'):
+                    if line.startswith('python3 -m http.server '):
+                        wrong += [f'{page}: {one}' for one in served(room, line.partition('#')[0])]
+                    elif line.startswith('make ') and not line.startswith('make demo'):
                         status, got = shell(room, f'make -n {line[5:]}')
                         wrong += [f'{page}: {line}: {got}'] if status != 0 else []
                     else:

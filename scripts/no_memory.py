@@ -23,7 +23,9 @@ ALONE = {
     'Debugger::new': 'debugger/src/debugger.rt',
     'copy_of': 'commands/src/copy.rt',
     'debugger_of': 'commands/src/trace.rt',
-    'note_more': 'embedding/src/game.rt',
+    'push': 'embedding/src/host_device.rt',
+    'HostDevice::note_write': 'embedding/src/host_device.rt',
+    'HostDevice::note_sync': 'embedding/src/host_device.rt',
 }
 # calls that answer `Ok(false)` where there was no memory, and in these files for nothing else
 FALSE = {'power', 'give_power', 'make_move', 'make_moves', 'play_on', 'obey_move', 'obey_keep'}
@@ -31,8 +33,7 @@ FALSE = {'power', 'give_power', 'make_move', 'make_moves', 'play_on', 'obey_move
 PROVED = {
     ('commands/src/copy.rt', 'decode'): 'the bytes are the snapshot of a machine of the cartridge',
     ('gbkeep/src/batteries.rt', 'machine_with_battery'): 'the battery file is one that the cartridge takes',
-    ('embedding/src/game.rt', 'write'): 'the device in memory has this sector',
-    ('embedding/src/game.rt', 'sync'): 'the device in memory',
+    ('embedding/src/host_device.rt', 'push_back'): 'onto a queue, which is refused for want of memory alone',
     ('c_interface/src/machine_exports.rt', 'power'): 'a console has no count of inputs that might be full',
 }
 # a game that takes no states answers `false` to the power switch, which no line of `record` asks for

@@ -104,7 +104,7 @@ def possible(name, equations, variants):
 def bodies_of(texts):
     """The bodies of a crate's functions by name, but for those that translate an error."""
     return {name: body for text in texts.values() for _, name, head, body in
-            re.findall(r'^( *)(?:pub(?:\(crate\))? )?(?:const )?fn (\w+)(.*?)^\1\{\n(.*?)^\1\}', text, re.S | re.M)
+            re.findall(r'^( *)(?:pub(?:\(crate\))? )?(?:const )?fn (\w+)(.*?)(?:^\1\{|(?<!record) \{)\n(.*?)^\1\}', text, re.S | re.M)
             if not re.search(r'\(\w+: \w*(?:Fault|Error)\b', head)}
 
 
@@ -156,6 +156,8 @@ class Sources:
         self.texts = {crate: sources(crate) for crate in self.crates}
         self.tests = {f'{path.stem}::{name}' for crate in self.crates if crate.endswith('_tests') for path, text in self.texts[crate].items()
                       for name in re.findall(r'#\[test\]\nfn (\w+)', text)}
+        self.tests |= {f'{crate}::{name}' for crate in self.crates for path, text in self.texts[crate].items() if path.stem == 'tests'
+                       for name in re.findall(r'#\[test\]\nfn (\w+)', text)}
         self.tests |= {f'program::{name}' for path in Path('scripts/program_tests').glob('test_*.py') for name in re.findall(r'^def test_(\w+)', path.read_text(), re.M)}
         self.tests |= {f'library::{name}' for name in re.findall(r'^    def test_(\w+)', Path('library/test_library.py').read_text(), re.M)}
         parts = [parts_of(self.texts, crate) for crate in self.crates]

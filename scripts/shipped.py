@@ -1,6 +1,7 @@
 """What a frame and its picture cost in what ships: the host's instructions in the program, in the library and in the libretro core.
 
 usage: shipped.py GBKEEP [LIBRARY CORE] [--keep]
+       shipped.py where GBKEEP [--keep]
        shipped.py gate GBKEEP [LIBRARY CORE]
 
 GBKEEP is the proved program before it is stripped; LIBRARY is a folder with libgbkeep.a and libgbkeep.so, CORE is gbkeep_libretro.so.
@@ -10,6 +11,9 @@ repeat, where times don't. The program plays a script; library and core play in 
 picture, the program draws one in `stream` behind each frame, and the library and the core hand one out; with a state, the program keeps one in `debug` and
 goes back to it, and the library and the core hand one out and take it back. How many frames come in a second of processor time is the program's, the best
 of three. --keep writes docs/speed.csv, of which speed_chart.py makes a picture and tables.
+
+`where` tells in which functions of the program the instructions of a frame are, those that each function calls left out, and of all functions that have the
+same name and other types the sum. --keep writes docs/speed_where.csv.
 
 `gate` counts a few ROMs, and fails where a frame costs more than a twentieth above its row of docs/speed.csv. It also looks at the code of program and
 library: the loops in which most instructions are made have the match on all opcodes in line, and a loop that is missing or that calls it fails. It ends with a
@@ -22,6 +26,7 @@ import shutil
 import subprocess
 import sys
 import tempfile
+from collections import Counter
 from pathlib import Path
 
 from examples.speed import build
@@ -30,6 +35,8 @@ from scripts.not_tried import note
 ROOT = Path(__file__).resolve().parent.parent
 PLAYER = Path(__file__).with_name('shipped_player.c')
 TABLE = ROOT / 'docs/speed.csv'
+WHERE = ROOT / 'docs/speed_where.csv'
+WHERE_HEAD = ['name', 'function', 'instructions']
 HEAD = ['name', 'what', 'of', 'program', 'library', 'core', 'a second']
 WARM, MANY = 20, 40
 # where each line has an interrupt, the first frames are not like the others
@@ -48,6 +55,9 @@ MOST = 1.05
 LOOPS = {'program': {'run_fast_steps_by': 5, 'run_fast_counted_by': 3, 'run_fast_unseen_by': 5, 'run_watching_by': 18}, 'library': {'run_fast_steps_by': 5}}
 # the C library copies and clears memory by what the processor has: without that the counts are the same on another one
 PLAIN = 'glibc.cpu.hwcaps=-AVX,-AVX2,-AVX512F,-AVX512VL,-AVX512BW,-ERMS,-FSRM,-AVX_Fast_Unaligned_Load'
+# one of each kind of load, and how much of a frame the functions that are named have at least
+PROFILED = ('busy', 'scrolling', 'raster', 'lyc', 'vram_other', 'wave', 'game', 'unpack', 'compiled', 'ask_stat')
+LEAST_SHARE = 0.02
 MATCH = re.compile(r'::run_(instruction|opcode|bit_opcode)(::<|$)')
 
 
@@ -106,10 +116,14 @@ class Shared:
         return [self.player, self.path, played, str(frames), *([kind] if kind in ('picture', 'state') else [])], b''
 
 
+def span(name):
+    """Behind how many frames of a ROM counting begins, and how many are counted."""
+    return 100 if name in LONG else WARM, LONG.get(name, MANY)
+
+
 def frame(of, cart, name, kind='frame'):
     """What one more frame costs, with what is done behind it."""
-    first = 100 if name in LONG else WARM
-    many = LONG.get(name, MANY)
+    first, many = span(name)
     return round((instructions(*of.command(cart, first + many, kind)) - instructions(*of.command(cart, first, kind))) / many)
 
 
@@ -171,7 +185,59 @@ def wrong_loops(path, wanted):
                     yield f'{path}: the loop {name} calls {called}, which was in line'
 
 
-# ---- the two ways to call it
+# ---- by function
+
+def plain_name(symbol):
+    """The name of a function without its crate's number and its types, as `machine::frame::run`."""
+    while (shorter := re.sub(r'<[^<>]*>', '', symbol)) != symbol:
+        symbol = shorter
+    return re.sub(r':{3,}', '::', symbol).strip(':')
+
+
+def own_costs(words, text, folder):
+    """The instructions of each function, without those that it calls."""
+    path = folder / 'profile'
+    run(['valgrind', '--tool=callgrind', f'--callgrind-out-file={path}', *words], text, GLIBC_TUNABLES=PLAIN)
+    names, costs, now, is_call = {}, Counter(), None, False
+    for line in path.read_text(errors='replace').splitlines():
+        if found := re.match(r'fn=\((\d+)\)(?: (.*))?$', line):
+            now = names.setdefault(found[1], plain_name(found[2] or ''))
+        elif line.startswith('calls='):
+            is_call = True
+        elif re.match(r'[\d+*-]', line) and now is not None:
+            if not is_call:
+                costs[now] += int(line.split()[1])
+            is_call = False
+        elif found := re.match(r'cfn=\((\d+)\) (.*)$', line):
+            names.setdefault(found[1], plain_name(found[2]))
+    return costs
+
+
+def shares(program, cart, name):
+    """The functions of a frame, and how many instructions each has; those with few as one."""
+    first, many = span(name)
+    with tempfile.TemporaryDirectory(prefix='where-') as folder:
+        few, more = (own_costs(*program.command(cart, frames, 'frame'), Path(folder)) for frames in (first, first + many))
+    found = {one: round((more[one] - few[one]) / many) for one in more}
+    whole = sum(found.values())
+    named = {one: count for one, count in sorted(found.items(), key=lambda it: -it[1]) if count >= LEAST_SHARE * whole}
+    return [*named.items(), ('all others', whole - sum(named.values()))]
+
+
+def where(path, is_kept):
+    kept = []
+    with tempfile.TemporaryDirectory(prefix='speed-') as folder:
+        room = Path(folder)
+        program, carts = Program(path, room), build.write(room / 'roms')
+        for name in PROFILED:
+            for function, count in shares(program, carts[name], name):
+                kept.append([name, function, count])
+                print(f'{name:12} {count:>9,} {function}', flush=True)
+    if is_kept:
+        keep(WHERE, [WHERE_HEAD, *kept])
+
+
+# ---- the ways to call it
 
 def cost(of, carts, name):
     """What a row of the table counts: a frame, or what is done behind it."""
@@ -188,6 +254,13 @@ def rows(found, carts):
             yield [name, MORE[name][3], 'more', *counts, None]
         else:
             yield [name, build.what(name), 'a frame', *counts, a_second(found['program'], carts[name], counts[0])]
+
+
+def keep(path, kept):
+    new = path.with_name(f'.{path.name}.new')
+    with open(new, 'w', newline='') as file:
+        csv.writer(file, lineterminator='\n').writerows(kept)
+    os.replace(new, path)
 
 
 def shown(row):
@@ -211,10 +284,7 @@ def count(words, is_kept):
     for line in lacking:
         note(*line.split(': ', 1))
     if is_kept:
-        new = TABLE.with_name('.speed.csv.new')
-        with open(new, 'w', newline='') as file:
-            csv.writer(file, lineterminator='\n').writerows([HEAD, *kept])
-        os.replace(new, TABLE)
+        keep(TABLE, [HEAD, *kept])
 
 
 def gate(words):
@@ -248,14 +318,16 @@ def gate(words):
 
 def main():
     words = [word for word in sys.argv[1:] if word != '--keep']
-    is_gate = words[:1] == ['gate']
-    paths = [os.path.abspath(word) for word in words[1 if is_gate else 0:]]
-    if len(paths) not in (1, 3) or (is_gate and '--keep' in sys.argv):
+    way = words[0] if words[:1] in (['gate'], ['where']) else None
+    paths, is_kept = [os.path.abspath(word) for word in words[1 if way else 0:]], '--keep' in sys.argv
+    if len(paths) not in ((1,) if way == 'where' else (1, 3)) or (way == 'gate' and is_kept):
         sys.exit(__doc__)
-    if is_gate:
+    if way == 'gate':
         gate(paths)
+    elif way == 'where':
+        where(paths[0], is_kept)
     else:
-        count(paths, '--keep' in sys.argv)
+        count(paths, is_kept)
 
 
 if __name__ == '__main__':

@@ -1,12 +1,13 @@
-"""Draws docs/speed.svg and writes the tables of docs/SPEED.md between its lines `begin made` and `end made`, all of docs/speed.csv.
+"""Draws docs/speed.svg and writes the tables of docs/SPEED.md between its lines `begin made` and `end made`, of docs/speed.csv and docs/speed_where.csv.
 
 usage: speed_chart.py           makes them
        speed_chart.py check     the status is 1 where they are not as made
 
-`shipped.py .. --keep` writes speed.csv."""
+`shipped.py .. --keep` writes speed.csv, and `shipped.py where .. --keep` speed_where.csv."""
 import csv
 import os
 import sys
+from collections import Counter
 from pathlib import Path
 
 DOCS = Path(__file__).resolve().parent.parent / 'docs'
@@ -37,9 +38,21 @@ def table(rows):
     return '\n'.join(lines) + '\n'
 
 
-def page(text, rows):
-    """The page with its tables: the frames in the first, the pictures in the second."""
-    made = [table([row for row in rows if row['of'] == of]) for of in COLOURS]
+def places(rows):
+    """A line for each ROM: its functions, the dearest first, with their shares of a frame."""
+    lines, wholes = ['| ROM | Functions, and their parts of a frame |', '|---|---|'], Counter()
+    for row in rows:
+        wholes[row['name']] += int(row['instructions'])
+    for name, whole in wholes.items():
+        shares = (f'{100 * int(row["instructions"]) / whole:.1f} % ' + (f'`{row["function"]}`' if '::' in row['function'] else row['function'])
+                  for row in rows if row['name'] == name)
+        lines.append(f'| `{name}` | ' + '; '.join(shares) + ' |')
+    return '\n'.join(lines) + '\n'
+
+
+def page(text, rows, functions):
+    """The page with its tables: the frames in the first, the pictures in the second, where their instructions are in the third."""
+    made = [*(table([row for row in rows if row['of'] == of]) for of in COLOURS), places(functions)]
     parts = text.split(BEGIN)
     if len(parts) != 1 + len(made) or any(END not in part for part in parts[1:]):
         sys.exit(f'speed_chart.py: {PAGE.name} has not {len(made)} places for tables')
@@ -49,13 +62,12 @@ def page(text, rows):
 def main():
     if sys.argv[1:] not in ([], ['check']):
         sys.exit(__doc__)
-    with open(DOCS / 'speed.csv', newline='') as file:
-        rows = list(csv.DictReader(file))
-    for path, text in ((CHART, drawn(rows)), (PAGE, page(PAGE.read_text(), rows))):
+    rows, functions = (list(csv.DictReader((DOCS / name).read_text().splitlines())) for name in ('speed.csv', 'speed_where.csv'))
+    for path, text in ((CHART, drawn(rows)), (PAGE, page(PAGE.read_text(), rows, functions))):
         if path.read_text() == text:
             continue
         if sys.argv[1:]:
-            sys.exit(f'{path.name} is not as scripts/speed_chart.py makes it of speed.csv')
+            sys.exit(f'{path.name} is not as scripts/speed_chart.py makes it of speed.csv and speed_where.csv')
         new = path.with_name(f'.{path.name}.new')
         new.write_text(text)
         os.replace(new, path)

@@ -3,6 +3,7 @@
 usage: test_make.py [TEST..]"""
 import functools
 import hashlib
+import json
 import math
 import os
 import random
@@ -150,7 +151,7 @@ def test_missing(folder):
     wanted = {target: {*own, *(need for file in files for need in needs_of(file))} for target, (own, files) in doctor.TARGETS.items()}
     # what each computer has, and what is looked for in places that are no part of the search path
     here = {'bash', *(need for need in doctor.NEEDS if shutil.which(need, path=doctor.ALSO))}
-    here |= {need for need in ('root', 'libretro.h', 'C library for aarch64', 'pygame', 'selenium') if doctor.is_there(need)}
+    here |= {need for need in ('root', 'libretro.h', 'C library for aarch64', 'GTK', 'Atspi', 'selenium') if doctor.is_there(need)}
     says = 'from scripts import doctor\nfor target in doctor.TARGETS: print(target, *doctor.missing(*doctor.asked(target)), sep="|")'
     status, out, err = room.python('-c', says)
     expect('status and errors', (status, err), (0, ''))
@@ -185,7 +186,7 @@ def test_several(folder):
     """Several targets, and a file, are looked for together; one that needs nothing is not held up; a target that there is not is none."""
     room = Room(folder)
     status, _, err = room.make('demo', 'dist', 'bin/libgbkeep.so')
-    expect('demo and dist', (status, sorted(line.split(' is missing')[0] for line in lines_of(err))), (2, ['ar', 'cc', 'dpkg-deb', 'git', 'rt', 'strip']))
+    expect('demo and dist', (status, sorted(line.split(' is missing')[0] for line in lines_of(err))), (2, ['ar', 'cc', 'clang of rt', 'dpkg-deb', 'git', 'rt', 'strip']))
     expect('the line of rt', [line for line in lines_of(err) if line.startswith('rt ')], [doctor.told('rt')])
     expect('the line of cc', [line for line in lines_of(err) if line.startswith('cc ')],
            ['cc is missing, or it finds no C library: install gcc and libc6-dev (CC=NAME names another compiler)'])
@@ -466,12 +467,17 @@ def test_clean(folder):
     made = {'bin/gbkeep': elf, 'bin/libgbkeep.so': elf, 'bin/libgbkeep.a': b'!<arch>\n', 'bin/gbkeep.h': b'/* gbkeep */\n', 'bin/gbkeep.pc': b'prefix=/usr\n',
             'bin/gate_passed': b'commit: x\n', 'bin/gate_begun': b'no commit', 'bin/not_tried': b'x: y\n', 'bin/demo.pgm': b'P2\n160 144\n3\n',
             'bin/demo.png': b'\x89PNG\r\n\x1a\n', 'bin/arm64/gbkeep': elf, 'bin/arm64/gbkeep-static': elf, 'bin/arm64/PROVED': b'logic=proved\n',
-            'dist/BUILT': b'version: 0\n', 'dist/gbkeep.deb': b'!<arch>\ndebian', 'dist/web/files.js': b'// Made by scripts/web.py: what\n',
-            'dist/web/gbkeep.wasm': b'\0asm', 'dist/web/page.js': b'page', 'dist/web/demo.gb': (TOP / 'examples/demo/demo.gb').read_bytes()}
+            'dist/BUILT': b'version: 0\n', 'dist/gbkeep.deb': b'!<arch>\ndebian'}
+    for place, maker in (('dist/web', 'web'), ('bin/web', 'page')):
+        page = {'index.html': b'<!doctype html>', 'gbkeep.wasm.gz': b'\x1f\x8b', 'page.js': b'page', 'demo.gb': (TOP / 'examples/demo/demo.gb').read_bytes()}
+        files = {name: hashlib.sha256(data).hexdigest() for name, data in page.items()}
+        listed = f'// Made by scripts/{maker}.py: what\nconst FILES = {json.dumps({"./": "0", **files, "changed.js": "0"})};\n'
+        page |= {'files.js': listed.encode(), 'README': b'gbkeep in a browser\n\nThese', 'service_worker.js': b'// The page without a network, once'}
+        made |= {f'{place}/{name}': data for name, data in page.items()}
     ours = {'bin/demo.gbkeep': GAME, 'bin/play-demo.sav': GAME, 'bin/game.gbkeep': GAME, 'bin/run.rec': b'GBKPREC1' + bytes(504), 'bin/zelda.gb': bytes(32768),
             'bin/zelda.sav': bytes(8192), 'bin/not_there/gbkeep': elf, 'bin/arm64/mine.gbkeep': GAME, 'bin/libgbkeep.so.mine': elf,
             'bin/gbkeep_libretro.so': GAME, 'bin/gbkeep.new': bytes(512) + GAME, 'dist/letter.txt': b'mine',
-            'dist/other.deb': b'mine', 'dist/web/mine.gb': b'mine', 'dist/changed.deb': b'changed'}
+            'dist/other.deb': b'mine', 'dist/web/mine.gb': b'mine', 'dist/web/changed.js': b'mine', 'bin/web/changed.js': b'mine', 'dist/changed.deb': b'changed'}
     for name, data in {**made, **ours}.items():
         (top / name).parent.mkdir(parents=True, exist_ok=True)
         (top / name).write_bytes(data)
@@ -543,7 +549,7 @@ def test_help(folder):
     expect('wide lines', [line for line in out.splitlines() if len(line) > 80], [])
     first, _, second = out.partition('\nTo change it')
     listed = [re.findall(r'^  make ([\w-]+)', part, re.M) for part in (first, second)]
-    expect('targets of players', [name in listed[0] for name in ('build', 'demo', 'play', 'web', 'install', 'run', 'doctor', 'clean')], [True] * 8)
+    expect('targets of players', [name in listed[0] for name in ('build', 'demo', 'play', 'install', 'run', 'doctor', 'clean')], [True] * 7)
     expect('others', [name in listed[0] for name in ('test', 'check', 'lint')], [False] * 3)
     named, free = targets()
     expect('each target once', sorted(listed[0] + listed[1]), sorted({*named, *free} - {'help'}))

@@ -180,10 +180,11 @@ module.start()
 # what the window does with its files, as a tool
 DOES = '''import os, sys, types
 sys.path = [one for one in sys.path if one]
-from gbkeep import game, slots, timed_game, tools, window_files
+from gbkeep import slots, timed_game, tools
+from gbkeep.desktop import files, preferences
 CART, SAVE, PROGRAM = sys.argv[1:]
 said = []
-window = types.SimpleNamespace(say=lambda line, seconds=0: said.append(line))
+window = types.SimpleNamespace(say=lambda line, seconds=0, file=None: said.append(line))
 
 def keep():
     slots.Slots(CART, SAVE, PROGRAM, True).keep()
@@ -197,13 +198,12 @@ def clock():
     timed_game.SaveTime(SAVE).write([(40, 1700000100)])
 
 def picture():
-    shown = types.SimpleNamespace(picture=lambda: game.Picture(b'3 ' * (160 * 144)))
-    window_files.leave_picture(window, shown, SAVE)
-    if said[0].startswith('no picture'):
+    files.leave_picture(window, bytes(160 * 144), 'clock', preferences.Preferences(pictures=os.getcwd()))
+    if said[0].startswith('No screenshot'):
         raise tools.Failed(said[0])
 
-def palette():
-    window_files.keep_palette(3)
+def preferences_of():
+    preferences.keep(preferences.Preferences(palette=3))
 
 def main(words):
     try:
@@ -287,9 +287,9 @@ def runs(program: str) -> list[Run]:
         Run('window keep', window, {'clock.gbkeep.slot': is_game, 'clock.gbkeep.before': is_game, 'clock.gbkeep.slot.time': is_time, 'clock.gbkeep.before.time': is_time}),
         Run('window back', window, {'clock.gbkeep': is_game, 'clock.gbkeep.before': is_game, 'clock.gbkeep.time': is_time, 'clock.gbkeep.before.time': is_time}),
         Run('window clock', window, {'clock.gbkeep.time': None}),
-        Run('window picture', window, {'clock.gbkeep-1.png': None}, False),
+        Run('window picture', window, {'clock 1.png': None}, False),
         # a game goes on without it
-        Run('window palette', window, {'config/gbkeep/palette': None}, False)]
+        Run('window preferences_of', window, {'config/gbkeep/window': None}, False)]
 
 
 class Room:
@@ -310,7 +310,7 @@ class Room:
         for name, data in (('moves.txt', b'wait 5\nstart 3\n'), ('longer.txt', b'wait 40\n'), ('picture.pgm', b'P2\n160 144\n3\n' + b'3 ' * (160 * 144)), ('old.png', png),
                            ('old.y4m', b'YUV4MPEG2 an old film'), ('report.xml', b'<testsuite></testsuite>\n'), ('battery', bytes(32768)), ('clock', bytes(32768 + 48)),
                            ('text.txt', b'A file of somebody.\n'), ('list.txt', b'demo.gb frames=2 picture=old.png\ndemo.gb frames=2 picture=made.pgm\n'),
-                           ('config/gbkeep/palette', b'1\n'), ('clock.gbkeep.time', b'40 1700000000\n'), ('clock.gbkeep.slot.time', b'7 1600000000\n')):
+                           ('config/gbkeep/window', b'# chosen in the window of gbkeep\n{}\n'), ('clock.gbkeep.time', b'40 1700000000\n'), ('clock.gbkeep.slot.time', b'7 1600000000\n')):
             (self.before / name).write_bytes(data)
         for words, typed in ((['new', 'demo.gb', 'other.gbkeep'], b''), (['new', 'demo.gb', 'run.gbkeep'], b''), (['new-recording', 'demo.gb', 'run.rec', '20'], b''),
                              (['record', 'demo.gb', 'run.gbkeep', 'run.rec'], b'frames 00 30\nframes 80 4\nframes 01 30\n'), (['stream', 'demo.gb', 'other.gbkeep'], b'frames 00 5\n'),

@@ -1,6 +1,9 @@
-"""Leaves in dist/web what a browser needs to play: the page of web/page, and the library as the WebAssembly module gbkeep.wasm. Any web server serves it.
+"""Renews gbkeep.wasm.gz in web/page: the library as a WebAssembly module that each browser runs, packed.
 
-usage: web.py            at the top of the repository, with RT as the prover's command
+usage: web.py            at the top of the repository, with RT as the prover's command: renews web/page, where its module is not of these sources
+       web.py FOLDER     leaves the whole page in FOLDER, with a module of these sources
+       web.py pages      prints the folders that tests are to try, as seen from the top: web/page, and where its module is of other sources, bin/web with
+                         one of these
 
 The proved library is compiled as for another processor with 64-bit addresses and the same order of bytes (aarch64), by the toolchain's own steps. The
 module that these hand to clang is taken, and changed for WebAssembly with a 64-bit memory:
@@ -10,9 +13,8 @@ module that these hand to clang is taken, and changed for WebAssembly with a 64-
 - the name of one instruction, a table lookup of 16 bytes, which both processors have.
 
 That is all, and each of them is printed. A layout, a triple, an instruction, a declared function, an attribute or a word of assembly that is not known here
-ends it with a line."""
-import hashlib
-import json
+ends it with a line. scripts/memory32.py makes one with a 32-bit memory of what is linked."""
+import contextlib
 import os
 import re
 import shutil
@@ -21,18 +23,15 @@ import sys
 import tempfile
 from pathlib import Path
 
-from scripts import library
+from scripts import library, page
 from scripts.alive import alive
 from scripts.doctor import needed
+from scripts.memory32 import Unknown, leb, sections, with_32_bits
 
 TOP = Path(__file__).resolve().parent.parent
-WEB, DIST = TOP / 'web', TOP / 'dist/web'
+WEB, SECOND = TOP / 'web', TOP / 'bin/web'
 RT = os.environ.get('RT', 'rt')
-CRATE = 'c_interface'
-DEMO = TOP / 'examples/demo/demo.gb'
-# a dist/web that has this file was made here
-MARK = 'files.js'
-MOST_BYTES = 600_000
+CRATE = page.CRATE
 
 # of the aarch64 build, and of the module
 OTHER = 'aarch64-unknown-linux-gnu'
@@ -69,10 +68,6 @@ EXPORTS = ['malloc', 'free', *('gbkeep_session_' + call for call in
                                 'count'.split())]
 
 
-class Unknown(Exception):
-    """The library's module has something that is not known here."""
-
-
 def run(words, **how):
     result = subprocess.run([str(word) for word in words], **how)
     if result.returncode != 0:
@@ -81,27 +76,6 @@ def run(words, **how):
 
 
 # ---- the module of the proved library
-
-def crates_below(name):
-    """The crates of the repository that one stands on, itself left out, and those of the kit that it names."""
-    needs = {}
-    for line in (TOP / 'crates.txt').read_text(encoding='utf-8').splitlines():
-        row = re.fullmatch(r'(\w+)(?: staticlib)?:(.*)', line.partition('#')[0].strip())
-        if row:
-            needs[row[1]] = row[2].split()
-    if name not in needs:
-        sys.exit(f'web.py: crates.txt has no {name}')
-    found = []
-
-    def add(one):
-        for other in needs[one]:
-            if other in needs and other not in found:
-                add(other)
-                found.append(other)
-
-    add(name)
-    return found, needs[name], needs
-
 
 def catching_toolchain(kit, folder, caught):
     """A toolchain whose clang leaves a copy of the module that it is given."""
@@ -123,7 +97,8 @@ def module_of(kit, room):
     library.prove_library(crate)
     caught = room / 'module.bc'
     catching_toolchain(kit, room / 'toolchain', caught)
-    below, named, needs = crates_below(CRATE)
+    needs, _ = page.rows()
+    below, named = page.crates_below(CRATE, needs), needs[CRATE]
     words = [kit / 'bin/rattle', 'build', '--crate-name', CRATE, 'src/lib.rt']
     for one in dict.fromkeys(['std', *(one for one in named if one not in needs)]):
         words += ['--extern', f'{one}={kit}/rlibs/{one}.rlib']
@@ -229,29 +204,6 @@ def for_wasm(text):
 
 # ---- the module of the browser
 
-def leb(data, at):
-    number = shift = 0
-    while True:
-        byte = data[at]
-        number |= (byte & 0x7f) << shift
-        at, shift = at + 1, shift + 7
-        if byte < 0x80:
-            return number, at
-
-
-def sections(module):
-    """The sections of a WebAssembly module, by their numbers."""
-    if module[:8] != b'\0asm\1\0\0\0':
-        raise Unknown('the linker left no module')
-    at, found = 8, {}
-    while at < len(module):
-        kind = module[at]
-        length, start = leb(module, at + 1)
-        found.setdefault(kind, module[start:start + length])
-        at = start + length
-    return found
-
-
 def exports(module):
     """What a module gives, by name."""
     data = sections(module).get(7, b'\0')
@@ -292,52 +244,12 @@ def link(kit, room, text):
     return module
 
 
-# ---- the folder
+# ---- what is left
 
-def page_files():
-    """The names of the files of a page that it needs without a network, but for the list of them."""
-    names = {path.name for path in (WEB / 'page').iterdir()} | {'gbkeep.wasm', 'demo.gb', 'faults.js'}
-    return sorted(names - {'README', 'service_worker.js'})
-
-
-def list_files(folder):
-    """Writes the list of a page's files: the SHA-256 of each, and a version, which is another one where any of them is."""
-    digests = {name: hashlib.sha256((folder / name).read_bytes()).hexdigest() for name in page_files()}
-    files = {'./': digests['index.html'], **digests}
-    version = hashlib.sha256(json.dumps(files).encode()).hexdigest()[:16]
-    (folder / MARK).write_text('// Made by scripts/web.py: what the page needs without a network, and what each file is.\n/* exported FILES, VERSION */\n'
-                               f'const VERSION = {json.dumps(version)};\nconst FILES = {json.dumps(files)};\n', encoding='utf-8')
-
-
-def leave(module, faults):
-    """Puts the page, the module and the refusals of the library into dist/web, in one piece."""
-    if DIST.exists() and not (DIST / MARK).exists():
-        sys.exit(f'web.py: {DIST} exists already and was not made here: take it away')
-    DIST.parent.mkdir(exist_ok=True)
-    new = Path(tempfile.mkdtemp(dir=DIST.parent, prefix='.web-'))
-    try:
-        for source in sorted((WEB / 'page').iterdir()):
-            shutil.copyfile(source, new / source.name)
-        (new / 'gbkeep.wasm').write_bytes(module)
-        (new / 'faults.js').write_bytes(faults)
-        shutil.copyfile(DEMO, new / 'demo.gb')
-        list_files(new)
-        length = sum(path.stat().st_size for path in new.iterdir())
-        if length > MOST_BYTES:
-            sys.exit(f'web.py: the page has {length:,} bytes, more than {MOST_BYTES:,}')
-        new.chmod(0o755)
-        if DIST.exists():
-            shutil.rmtree(DIST)
-        os.rename(new, DIST)
-    finally:
-        shutil.rmtree(new, ignore_errors=True)
-    print(f'dist/web: {length:,} bytes, gbkeep.wasm {len(module):,}')
-
-
-def main():
-    if sys.argv[1:]:
-        sys.exit(__doc__)
+def module_of_sources():
+    """The module of the sources as they stand, their digest, and the prover's name."""
     needed('rt', 'clang of rt')
+    of = page.sources()
     kit = Path(run([RT, 'doc'], stdout=subprocess.PIPE, text=True).stdout.strip()).parent
     with tempfile.TemporaryDirectory() as name:
         room = Path(name)
@@ -346,11 +258,79 @@ def main():
             changed, changes = for_wasm(text.read_text(encoding='utf-8'))
             for line in changes:
                 print(f'changed: {line}')
-            module = link(kit, room, changed)
+            module, counts = with_32_bits(link(kit, room, changed))
+            check_module(module)
         except Unknown as unknown:
             sys.exit(f'web.py: {unknown}: the module is not made')
-    leave(module, run([sys.executable, '-B', WEB / 'faults.py'], stdout=subprocess.PIPE).stdout)
+    print(f'changed: {counts}')
+    return module, of, prover()
+
+
+def prover():
+    return run([RT, 'version'], stdout=subprocess.PIPE, text=True).stdout.strip()
+
+
+def made_before(folder):
+    """The module that this prover has made of these sources, where a folder has it."""
+    if not (folder / page.OF).exists():
+        return None
+    of, module = page.kept(folder), page.module_in(folder)
+    is_same = of == {'module': page.digest(module), 'sources': page.sources(), 'prover': prover()}
+    return (module, of['sources'], of['prover']) if is_same else None
+
+
+def leave(folder):
+    """The whole page in a folder, with a module of these sources, in one piece. A folder that is there goes if it is such a page."""
+    needed('rt')
+    if folder.exists() and not (folder / page.LIST).exists():
+        sys.exit(f'web.py: {folder} exists already and was not made here: take it away')
+    module = made_before(folder) or module_of_sources()
+    folder.parent.mkdir(parents=True, exist_ok=True)
+    new = Path(tempfile.mkdtemp(dir=folder.parent, prefix='.web-'))
+    try:
+        for source in sorted(page.PAGE.iterdir()):
+            if source.is_file() and source.name not in page.MADE:
+                shutil.copyfile(source, new / source.name)
+        page.leave_module(new, *module)
+        page.make(new, folder)
+        new.chmod(0o755)
+        if folder.exists():
+            shutil.rmtree(folder)
+        os.rename(new, folder)
+    finally:
+        shutil.rmtree(new, ignore_errors=True)
+
+
+def renew():
+    """Makes the module of web/page anew, where it is of other sources, and all that is made."""
+    if (page.PAGE / page.OF).exists() and page.is_of_sources():
+        print(f'web/page/{page.MODULE} is of these sources')
+    else:
+        page.leave_module(page.PAGE, *module_of_sources())
+    page.make()
+
+
+def pages():
+    """The folders that tests are to try. What it says meanwhile is no part of its output."""
+    found = [page.PAGE]
+    if not page.is_of_sources():
+        found.append(SECOND)
+        with contextlib.redirect_stdout(sys.stderr):
+            leave(SECOND)
+    for folder in found:
+        print(folder.relative_to(TOP))
+
+
+def main(words):
+    if words == []:
+        renew()
+    elif words == ['pages']:
+        pages()
+    elif len(words) == 1 and not words[0].startswith('-'):
+        leave(Path(words[0]).resolve())
+    else:
+        sys.exit(__doc__)
 
 
 if __name__ == '__main__':
-    main()
+    main(sys.argv[1:])

@@ -1,6 +1,7 @@
 #!/usr/bin/python3
 """Has the calls that the page makes on files of the browser fail, one in each life: by an exception, by a write that is cut, or by never coming back. What
-failed is told in words; opened again, the game has each input that was shown as saved, with the state that it had. In Debian's Chromium.
+failed is told in words; opened again, the game has each input that was shown as saved, with the state that it had, and each state that was kept. In
+Debian's Chromium, by what the page asks its worker.
 
 usage: test_page_faults.py GBKEEP [NAME ..]     NAME: of a test, as faults_of_a_new_game; all are run where none is given
 
@@ -11,12 +12,13 @@ import hashlib
 import json
 import os
 import random
-import shutil
 import sys
 import threading
 import time
 
-from web.test_web import SEED, Quiet, Server, WithBrowser, list_files, main
+from web.asked import Asking
+from web.test_kept_games import IMAGES
+from web.test_web import SEED, Quiet, Server, main
 
 IS_ALL = os.environ.get('ALL') == '1'
 SAVING = {'write index', 'flush index', 'write N.gbkeep', 'flush N.gbkeep', 'createSyncAccessHandle N.gbkeep'}
@@ -66,81 +68,49 @@ FAULTS = '''
   made(Blob.prototype, 'arrayBuffer', false);
 }
 '''
-# one life, step by step, until the fault was met: each step with what the page says then
+# one life, step by step, until the fault was met: each step with what the worker answered, and the state of the game behind it
 LIFE = '''
 const [steps, isFaulty] = given;
-const $ = (id) => document.getElementById(id);
 const pause = (time) => new Promise((done) => { setTimeout(done, time); });
-const said = () => ({ state: $('status').dataset.state, text: $('status').textContent, saved: Number($('status').dataset.saved), count: Number($('status').dataset.count),
-  more: `${$('warnings')?.textContent} ${$('games').hidden ? '' : $('list').innerText}` });
-const QUIET = /^(|Paused[.]|Playing[.]|Opening the game[.]|Kept in the slot.*|Back to the slot: [0-9]+ inputs.*|.* was taken out[.]|.* was deleted[.]|.* is played next[.])$/;
-const isTold = () => { const now = said(); return now.state === 'refused' || !QUIET.test(now.text) || /could not|can't be read|another tab/.test(now.more); };
-const until = async (what) => { while (!what()) { await pause(20); } };
 const fired = async () => (await (await fetch('/fired')).json());
 const does = {
-  ready: () => until(() => document.documentElement.dataset.ready),
-  async play(buttons, frames) { await gbkeep.press(buttons, frames); await gbkeep.save(); return gbkeep.state(); },
-  async keep() { $('keep-slot').click(); await until(() => $('status').textContent.startsWith('Kept in the slot') || isTold()); },
-  async back() { $('go-back').click(); await until(() => $('status').textContent.startsWith('Back to the slot') || isTold()); return isTold() ? null : gbkeep.state(); },
-  take: () => gbkeep.exportSave().then(() => {}),
-  async close() { $('close').click(); await until(() => !$('games').hidden && $('list').children.length > 0 || isTold()); await pause(50); },
-  async out() { document.querySelector('[aria-label^="Take the SAVE"]').click(); await until(() => /taken out/.test($('status').textContent) || isTold()); },
+  // the page waits for it, too, before a game is opened
+  async load() {
+    while (!window.loaded) { await pause(10); }
+    return window.loaded;
+  },
+  open: (cart, how) => begin(cart, how),
+  async play(buttons, frames) {
+    const pressed = await ask('press', { held: buttons, frames });
+    return pressed.refused ? pressed : ask('save');
+  },
+  // an image that nothing names, where there is one
   async remove() {
-    const one = document.querySelector('[aria-label^="Delete a game that was replaced"]');
-    if (!one) { return; }
-    const count = document.querySelectorAll('details li').length;
-    one.click();
-    await until(() => $('question').open);
-    $('yes').click();
-    await until(() => document.querySelectorAll('details li').length < count || isTold());
+    const listed = await ask('list');
+    if (listed.answer?.some((row) => row.isUnread)) { return listed; }
+    const one = listed.answer?.find((row) => row.id === steps.ident)?.images.find((image) => image.number !== listed.answer[0].play && image.slot === 0 && !image.isUndo);
+    return one ? ask('deleteImage', { id: steps.ident, number: one.number }) : listed;
   },
-  async older() {
-    document.querySelector('[aria-label^="Play the slot"]').click();
-    await until(() => /is played next/.test($('status').textContent) || isTold());
-  },
-  wait: (time) => pause(time),
+  wait: async (time) => { window.ticking = {}; await pause(time); window.ticking = 0; return {}; },
 };
 const log = [];
-for (const [name, ...words] of steps) {
-  let [isDone, kept, failed] = [false, null, null];
-  does[name](...words).then((got) => { kept = got; isDone = true; }, (error) => { failed = String(error); isDone = true; });
+for (const [name, ...words] of [['load'], ...steps.acts]) {
+  let got = null;
+  (does[name] ? does[name](...words) : ask(name, words[0])).then((answer) => { got = answer; });
   let met = false;
-  for (const begun = performance.now(); !isDone && performance.now() - begun < 9000; await pause(20)) {
+  for (const begun = performance.now(); got === null && performance.now() - begun < 20000; await pause(10)) {
     met = isFaulty && await fired();
-    if (met) { break; }
+    // what never comes back is waited for no longer
+    if (met && performance.now() - begun > 1500 && steps.hangs) { break; }
   }
   met ||= isFaulty && await fired();
-  if (met) {
-    for (const begun = performance.now(); !isTold() && !failed && performance.now() - begun < 5000;) { await pause(20); }
-    await pause(30);
-  }
-  log.push({ name, kept, failed, met, isDone, isTold: isTold(), ...said() });
-  if (met || !isDone) { break; }
+  const state = got && !got.refused && !met && ['play', 'keepState', 'loadState', 'undoLoad'].includes(name) ? (await ask('state')).answer : null;
+  log.push({ name, words, refused: got?.refused ?? null, isDone: got !== null, met, state, isTold: Boolean(got?.refused || shown.stopped || shown.troubles.length || got?.answer?.notice),
+    isUnread: Boolean(got?.answer?.some?.((row) => row.isUnread || row.isOpen)), text: JSON.stringify([got?.refused, shown.stopped, shown.troubles, got?.answer?.notice]), count: shown.count, saved: shown.saved });
+  if (met || got === null) { break; }
 }
-if (!isFaulty) { new BroadcastChannel('calls').postMessage(0); await pause(200); }
+if (!isFaulty) { new BroadcastChannel('calls').postMessage(0); await pause(300); }
 return log;
-'''
-# each image of a game: how many inputs it has, and its state
-IMAGES = '''
-const { Library, Session } = await import('./library.js');
-const sha256 = async (bytes) => [...new Uint8Array(await crypto.subtle.digest('SHA-256', bytes))].map((byte) => byte.toString(16).padStart(2, '0')).join('');
-const library = await Library.load('gbkeep.wasm');
-const folder = await (await (await navigator.storage.getDirectory()).getDirectoryHandle('games')).getDirectoryHandle(given[0]);
-const bytesOf = async (name) => new Uint8Array(await (await (await folder.getFileHandle(name)).getFile()).arrayBuffer());
-const rom = await bytesOf('cart.gb');
-const found = {};
-for await (const name of folder.keys()) {
-  if (name.endsWith('.gbkeep')) {
-    try {
-      const session = Session.resume(library, rom, await bytesOf(name));
-      found[name] = [Number(session.count()), await sha256(session.snapshot())];
-      session.free();
-    } catch (error) {
-      found[name] = [-1, String(error)];
-    }
-  }
-}
-return found;
 '''
 
 
@@ -172,22 +142,12 @@ class Failing(Quiet):
         self.answer(json.dumps(self.server.plan).encode())
 
 
-class PageFaults(WithBrowser):
+class PageFaults(Asking):
     @classmethod
     def setUpClass(cls):
         super().setUpClass()
-        site = cls.room / 'failing'
-        shutil.copytree(cls.site, site)
-        (site / 'worker.js').write_text((site / 'worker.js').read_text() + FAULTS)
-        list_files(site)
-        # the same page, but for the time that it waits for an answer
-        shutil.copytree(site, site / 'hasty')
-        page = (site / 'page.js').read_text()
-        for old, new in (('const LONG = 10000;', 'const LONG = 1200;'), ('setInterval(lookForAnswers, 1000);', 'setInterval(lookForAnswers, 100);')):
-            page = page.replace(old, new)
-        (site / 'hasty/page.js').write_text(page)
-        list_files(site / 'hasty')
-        cls.failing = Server(site, kind=Failing)
+        cls.site_of_faults = cls.changed_site('failing', FAULTS)
+        cls.failing = Server(cls.site_of_faults, kind=Failing)
         cls.plan({})
         cls.addClassCleanup(cls.failing.close)
 
@@ -196,22 +156,21 @@ class PageFaults(WithBrowser):
         notes = cls.failing.server
         notes.plan, notes.fired, notes.counts, notes.released = plan, False, {}, threading.Event()
 
-    def life(self, words, steps, plan=None):
+    def life(self, steps, plan=None):
         """A life of the page, with a fault or without one: what each step left."""
         self.plan(plan or {})
-        url = self.failing.url(words)
-        self.browser.get(url.replace('index.html', 'hasty/index.html') if plan and plan['how'] == 'hang' else url)
-        log = self.page.wait_for(LIFE, steps, plan is not None)
+        self.page.browser.get(self.failing.url().replace('index.html', 'asks.html'))
+        self.page.until(lambda: self.page.js("return typeof ask === 'function'"), 'the page of asks was never there')
+        log = self.page.wait_for(LIFE, {**steps, 'hangs': bool(plan) and plan['how'] == 'hang'}, plan is not None)
         # what hangs is let go when nobody waits for it
-        self.browser.get('about:blank')
+        self.page.browser.get('about:blank')
         self.failing.server.released.set()
         return log
 
-    def counted(self, words, steps):
+    def counted(self, steps):
         """The calls of a life without a fault: of each kind how many."""
-        log = self.life(words, steps)
-        for step in log:
-            self.assertTrue(step['isDone'] and not step['isTold'] and not step['failed'], step)
+        for step in self.life(steps):
+            self.assertTrue(step['isDone'] and not step['isTold'], step)
         until = time.monotonic() + 5
         while not self.failing.server.counts and time.monotonic() < until:
             time.sleep(0.05)
@@ -231,115 +190,109 @@ class PageFaults(WithBrowser):
                 found.append({'key': key, 'number': chance.choice(numbers), 'how': 'short', 'error': ''})
             yield from found if IS_ALL or key in SAVING else [chance.choice(found)]
 
-    def again(self, words):
-        """The page without faults: an older worker may have the game for a moment."""
+    def opened_again(self, cart):
+        """The game without faults: an older worker may have it for a moment."""
         self.plan({})
-        until = time.monotonic() + 15
-        while True:
-            page = self.page.open(self.failing.url(words))
-            if 'another tab' not in page.text() or time.monotonic() > until:
-                return page
+        return self.again(cart, self.failing)
 
     def told(self, log, plan):
-        """What was shown as saved, each game as (inputs, state), and whether the one behind the slot was gone back to."""
-        game, slot, back = None, None, None
+        """What was told as saved and is to be there: states in slots, and games, each as [inputs, state]; and the one that is played, or None where the fault
+        was met in what changes that."""
+        slots, games, played = {}, [], None
         for step in log:
-            if step['name'] == 'play' and step['kept']:
-                if back:
-                    back = (step['saved'], step['kept'])
-                else:
-                    game = (step['saved'], step['kept'])
-            if step['name'] == 'keep' and step['text'].startswith('Kept in the slot'):
-                slot = game
-            if step['name'] == 'back' and step['text'].startswith('Back to the slot'):
-                back = (step['saved'], step['kept'] or slot[1])
-        if any(step['name'] == 'remove' for step in log):
-            # it was replaced, and deleted
-            game = None
+            if not step['isDone'] or step['refused'] or step['met']:
+                continue
+            if step['name'] == 'play':
+                played = [step['saved'], step['state']]
+            elif step['name'] == 'keepState':
+                slots[step['words'][0]['slot']] = [step['saved'], step['state']]
+            elif step['name'] == 'loadState':
+                games.append(played)
+                played = [step['saved'], step['state']]
+            elif step['name'] == 'undoLoad':
+                games.append(played)
+                played = [step['saved'], step['state']]
+            elif step['name'] == 'deleteState':
+                slots.pop(step['words'][0]['slot'], None)
         met = [step for step in log if step['met']]
         self.assertTrue(all(step['isDone'] or step['met'] for step in log), (plan, log[-1]))
-        # what a file can't tell of the browser, in a trial, is not told
-        if met and not plan['key'].endswith(' trial'):
-            # who asked by program has a refusal of its own
-            self.assertTrue(met[-1]['isTold'] or met[-1]['failed'], (plan, met[-1]))
-            if plan['how'] == 'hang':
-                self.assertIn('does not answer', met[-1]['text'], (plan, met[-1]))
-        # a copy of the slot may be played then
-        is_last = back and not any(step['name'] == 'older' for step in log)
-        return bool(met), [one for one in (game, slot, back) if one], back if is_last else None
+        key = plan['key']
+        if met and plan['how'] == 'hang':
+            # the page itself tells of what is never answered
+            self.assertTrue(not met[-1]['isDone'] or is_courtesy(key) or key.startswith(('removeEntry', 'getDirectory')), (plan, met[-1]))
+        elif met and not is_courtesy(key) and not (plan['error'] != 'UnknownError' and met[-1]['name'] in ('keepState', 'loadState')) \
+                and not (met[-1]['name'] == 'load' and key == 'getDirectory '):
+            # where there was no room for a state, the timeline gives its own, and it is kept; what is looked at first of a browser is tried again later
+            self.assertTrue(met[-1]['isTold'] or met[-1]['isUnread'], (plan, met[-1]))
+        changes = met and met[-1]['name'] in ('loadState', 'undoLoad', 'playImage')
+        return bool(met), [*slots.values(), *filter(None, games), *([played] if played else [])], None if changes or any(step['name'] == 'playImage' for step in log) else played
 
-    def there(self, ident, told, back, plan):
+    def there(self, ident, told, played, plan):
         """Whether each game that was told as saved is there, and the one that is played is the last."""
-        images = self.page.wait_for(IMAGES, ident)
-        for count, state in told:
-            fits = [one for one in images.values() if one[0] > count or one == [count, state]]
-            self.assertTrue(fits, (plan, count, images))
-        if back:
-            self.assertGreaterEqual(self.page.count(), back[0], plan)
-        return images
+        count = self.page.count()
+        images = list(self.page.wait_for(IMAGES, ident).values())
+        for one in told:
+            self.assertTrue(one in images or any(other and other[0] > one[0] for other in images), (plan, one, images))
+        if played:
+            self.assertGreaterEqual(count, played[0], plan)
+
+    def tried(self, plans, steps, cart_of, name, least=0.8):
+        """A life with each fault, and one without behind it."""
+        met = 0
+        for number, plan in enumerate(plans):
+            with self.subTest(plan=plan):
+                cart = cart_of(number)
+                ident = hashlib.sha256((self.site_of_faults / cart).read_bytes()).hexdigest()
+                was_met, told, played = self.told(self.life(steps(cart, ident), plan), plan)
+                met += was_met
+                self.opened_again(cart)
+                self.there(ident, told, played, plan)
+                self.page.ask('close')
+        print(f'{met} of {len(plans)} faults of {name}', file=sys.stderr)
+        self.assertGreater(met, least * len(plans))
 
     def test_faults_of_a_game(self):
-        """A game that goes on: it is played, kept in its slot, gone back to, taken out, closed; an older one is deleted."""
-        chance, words = random.Random(SEED), '?cart=/demo.gb&paused=1'
-        steps = [['ready'], ['play', 1, 20], ['keep'], ['play', 2, 20], ['back'], ['play', 4, 10], ['take'], ['close'], ['out'], ['remove'], ['remove'], ['older']]
-        self.life(words, steps)
-        ident = self.ident_of(self.carts['demo'])
-        counts, met = self.counted(words, steps), 0
+        """A game that goes on: it is played, kept in slots, loaded, undone, gone back in, closed; an older one is deleted, another one played."""
+        chance, cart = random.Random(SEED), 'demo.gb'
+        ident = hashlib.sha256((self.site_of_faults / cart).read_bytes()).hexdigest()
+        acts = [['open', cart], ['play', 1, 20], ['keepState', {'slot': 1}], ['play', 2, 20], ['keepState', {'slot': 1}], ['undoKeep', {'slot': 1}], ['play', 2, 20], ['loadState', {'slot': 1}],
+                ['play', 4, 320], ['keepState', {'slot': 2}], ['undoLoad'], ['timeline'], ['goToMoment', {'number': 1}], ['play', 8, 5], ['deleteState', {'slot': 2}], ['states'], ['image'], ['close'],
+                ['list'], ['imageOf', {'id': ident, 'number': 1}], ['remove'], ['playImage', {'id': ident, 'number': 1}]]
+        # a moment may be gone in a later life: it is then refused
+        quiet = {'acts': [act for act in acts if act[0] != 'goToMoment'], 'ident': ident}
+        self.life(quiet)
+        counts = self.counted(quiet)
         plans = list(self.plans(counts, chance))
-        for plan in plans:
-            with self.subTest(plan=plan):
-                was_met, told, back = self.told(self.life(words, steps, plan), plan)
-                met += was_met
-                page = self.again(words)
-                self.assertEqual(page.state_of(), 'paused', (plan, page.status()))
-                self.there(ident, told, back, plan)
-        print(f'{met} of {len(plans)} faults of a game, of {sum(counts.values())} calls', file=sys.stderr)
-        self.assertGreater(met, 0.8 * len(plans))
+        self.tried(plans, lambda cart, ident: quiet, lambda number: cart, f'a game, of {sum(counts.values())} calls')
 
     def test_faults_of_a_new_game(self):
         """A new game of a cartridge that the browser does not have."""
-        chance, steps = random.Random(SEED + 1), [['ready'], ['play', 1, 20], ['close']]
-        counts, met = self.counted(f'?cart=/{self.new_cart(0)}&paused=1', steps), 0
+        chance = random.Random(SEED + 1)
+        steps = lambda cart, ident: {'acts': [['open', cart], ['play', 1, 20], ['goToMoment', {'number': 1}], ['play', 2, 20], ['close']], 'ident': ident}
+        counts = self.counted(steps(self.new_cart(0), ''))
         plans = [plan for plan in self.plans(counts, chance) if not plan['key'].endswith(' trial')]
-        for number, plan in enumerate(plans):
-            with self.subTest(plan=plan):
-                words = f'?cart=/{self.new_cart(number + 1)}&paused=1'
-                was_met, told, back = self.told(self.life(words, steps, plan), plan)
-                met += was_met
-                page = self.again(words)
-                self.assertEqual(page.state_of(), 'paused', (plan, page.status()))
-                self.there(self.ident_of(self.failing_site() / self.new_cart(number + 1)), told, back, plan)
-        print(f'{met} of {len(plans)} faults of a new game, of {sum(counts.values())} calls', file=sys.stderr)
-        self.assertGreater(met, 0.8 * len(plans))
+        self.tried(plans, steps, lambda number: self.new_cart(number + 1), f'a new game, of {sum(counts.values())} calls')
 
     def test_faults_of_the_clock(self):
         """A game with a clock: where what stands beside it can't be written, the clock stands still, in words."""
-        chance, steps, words = random.Random(SEED + 2), [['ready'], ['wait', 1200], ['close']], '?cart=/clock.gb'
-        self.life(words, steps)
-        counts, met = self.counted(words, steps), 0
+        chance, cart = random.Random(SEED + 2), 'clock.gb'
+        steps = lambda cart, ident: {'acts': [['open', cart, {'paused': False, 'test': False}], ['wait', 1200], ['save'], ['close']], 'ident': ident}
+        self.life(steps(cart, ''))
+        counts = self.counted(steps(cart, ''))
         plans = [plan for plan in self.plans(counts, chance) if plan['key'].endswith('.time')]
-        for plan in plans:
-            with self.subTest(plan=plan):
-                log = self.life(words, steps, plan)
-                was_met, told, back = self.told(log, plan)
-                met += was_met
-                page = self.again(words + '&paused=1')
-                self.assertGreaterEqual(page.count(), max(step['saved'] for step in log), plan)
-        print(f'{met} of {len(plans)} faults beside a game with a clock', file=sys.stderr)
-        self.assertGreater(met, 0.8 * len(plans))
-
-    def failing_site(self):
-        return self.room / 'failing'
+        self.tried(plans, steps, lambda number: cart, 'what stands beside a game with a clock')
 
     def new_cart(self, number):
         name = f'new-{number}.gb'
         content = bytearray(self.carts['demo'].read_bytes())
         content[0x14e:0x150] = (40_000 + number).to_bytes(2, 'big')
-        (self.failing_site() / name).write_bytes(content)
+        (self.site_of_faults / name).write_bytes(content)
         return name
 
-    def ident_of(self, path):
-        return hashlib.sha256(path.read_bytes()).hexdigest()
+
+def is_courtesy(key):
+    """Whether a file is one that nothing depends on: what fails of it need not be told."""
+    return key.split(' ')[1] in ('played', 'N.about', 'timeline', 'trial') or key == 'removeEntry N.time'
 
 
 if __name__ == '__main__':

@@ -11,18 +11,16 @@ from pathlib import Path
 
 from web.test_web import DIST, Browser, Page, Server, list_files, main
 
-WORDS = {'old': 'nothing was kept in it', 'new': 'nobody kept anything in it'}
+WORDS = {'old': 'of the old version', 'new': 'of the new version'}
 # what the module of the page that speaks says, as the page has it
 SPEAKS = 'return (await (await fetch("refusals.js")).text()).includes(given[0])'
 
 
 def version(folder, name):
-    """A page of a version: its refusals have words of their own."""
+    """A page of a version: its refusals say so."""
     shutil.copytree(DIST, folder)
-    text = (folder / 'refusals.js').read_text()
-    if WORDS['old'] not in text:
-        raise AssertionError('refusals.js has other words')
-    (folder / 'refusals.js').write_text(text.replace(WORDS['old'], WORDS[name]))
+    with open(folder / 'refusals.js', 'a', encoding='utf-8') as file:
+        file.write(f'// {WORDS[name]}\n')
     list_files(folder)
 
 
@@ -176,7 +174,7 @@ class Versions(unittest.TestCase):
         self.put('old')
         self.opened()
         self.browser.get('about:blank')
-        self.page.until(lambda: self.opened() and self.names() == ['gbkeep ', 'gbkeep-0000000000000002', 'gbkeep-0000000000000003', 'mine'], 'others stay', 15)
+        self.page.until(lambda: self.opened() and self.names() == ['gbkeep ', 'gbkeep-0000000000000002', 'gbkeep-0000000000000003', 'mine'], 'others stay', 60)
 
     def names(self):
         found = self.page.wait_for('return (await caches.keys()).sort()')

@@ -1,18 +1,16 @@
 #!/usr/bin/python3
-"""Plays in a browser: Debian's Chromium, without a window, on the page of dist/web, served from this computer.
+"""Plays in a browser: Debian's Chromium, without a window, on the page of web/page, served from this computer.
 
 usage: test_web.py GBKEEP [NAME ..]     NAME: of a test, as kills; all are run where none is given
        test_web.py GBKEEP measure       prints times
-       test_web.py GBKEEP shots         leaves docs/browser.png and docs/browser_phone.png
+       test_web.py GBKEEP shots         leaves docs/browser.png, docs/browser_home.png and docs/browser_phone.png
 
-It needs Debian's packages chromium, chromium-driver and python3-selenium, and installs nothing; firefox-esr is tried, too, where it is there. What the
-page plays is compared with what the program plays. The whole browser is killed with SIGKILL at random moments. KILLS is how often (20); SEED says when;
-PAGE names another folder than dist/web."""
+It needs Debian's packages chromium, chromium-driver and python3-selenium, and installs nothing. What the page plays is compared with what the program plays. The whole browser is killed with SIGKILL at random moments. KILLS is how often (20); SEED says when;
+PAGE names another folder than web/page."""
 import contextlib
 import functools
 import hashlib
 import http.server
-import json
 import os
 import random
 import re
@@ -33,7 +31,7 @@ from examples.speed import build as speed_roms
 from gbkeep import Picture
 from gbkeep.palettes import PALETTES
 from gbkeep.timed_game import SaveTime, TimedGame, given_until, lines_of
-from scripts.web import list_files
+from scripts.page import list_files
 
 HERE = Path(__file__).resolve().parent
 TOP = HERE.parent
@@ -55,7 +53,7 @@ except ImportError:
 if NEEDED:
     sys.exit("test_web.py needs Debian's " + ', '.join(NEEDED))
 
-DIST = Path(os.environ.get('PAGE', TOP / 'dist/web'))
+DIST = Path(os.environ.get('PAGE', TOP / 'web/page'))
 DEMO = TOP / 'examples/demo/demo.gb'
 TEST_ROMS = sorted((TOP / 'examples/test_roms').glob('*.gb'))
 SECTOR = 512
@@ -228,7 +226,11 @@ class Page:
     def __init__(self, browser):
         self.browser = browser
 
-    def open(self, url):
+    def open(self, url, is_anew=True):
+        """Opens the page as a new tab does, or else as a tab that had a game open."""
+        if is_anew:
+            with contextlib.suppress(WebDriverException):
+                self.js('sessionStorage.clear()')
         self.browser.get(url)
         self.until(lambda: self.js('return document.documentElement.dataset.ready'), 'the page was never ready', 30)
         return self
@@ -273,7 +275,8 @@ class Page:
         self.until(lambda: self.state_of() == state, f'the state was never {state}')
 
     def until_text(self, words):
-        return self.until(lambda: words in self.text() and self.text(), f'{words!r} was never said')
+        """Waits until the page says this, in large or small letters."""
+        return self.until(lambda: words.lower() in self.text().lower() and self.text(), f'{words!r} was never said')
 
     def press(self, buttons, frames):
         return self.wait_for('return await gbkeep.press(given[0], given[1])', buttons, frames)
@@ -296,15 +299,84 @@ class Page:
     def click(self, where):
         self.browser.find_element(By.CSS_SELECTOR, where).click()
 
+    def menu(self, where):
+        """Presses what the menu of the game has."""
+        self.click('#menu-open')
+        self.click(where)
+
+    def states(self, slot, what):
+        """Presses what the dialog of save states has for one: load, keep, undo or delete."""
+        self.menu('[data-act=States]')
+        where = f'#states-list [data-slot="{slot}"] [data-state-act={what}]'
+        self.until(lambda: self.js('return document.querySelector(arguments[0]) !== null', where), f'{where} is never there')
+        self.click(where)
+
+    def keep(self, slot=1):
+        self.states(slot, 'keep')
+        return self.until_text(f'Saved to state {slot}')
+
+    def load(self, slot=1):
+        self.states(slot, 'load')
+        return self.until_text(f'Loaded state {slot}')
+
+    def toggle_pause(self):
+        self.click('#pause')
+
+    def demo(self):
+        if self.js("return document.getElementById('demo').offsetParent === null"):
+            self.click('#more')
+            self.click('#about-demo')
+        else:
+            self.click('#demo')
+
+    def close(self):
+        """Saves and closes the game, and waits for the list."""
+        number = "return Number(document.getElementById('list').dataset.number ?? 0)"
+        before = self.js(number)
+        self.click('#close')
+        self.until_state('closed')
+        self.until(lambda: self.js(number) > before and self.rows(), 'nothing is listed')
+
+    def is_open(self, dialog):
+        return self.js('return document.getElementById(arguments[0]).open', dialog)
+
+    def question(self):
+        """The words of the question that is asked."""
+        self.until(lambda: self.is_open('question'), 'nothing is asked')
+        return self.js("return document.getElementById('question-text').textContent")
+
+    def answer(self, agrees):
+        self.question()
+        self.click('#yes' if agrees else '#no')
+        self.until(lambda: not self.is_open('question'), 'the question stays')
+
+    def reset(self, agrees):
+        self.menu('#power')
+        self.answer(agrees)
+
+    def card(self, name, what=None):
+        """Opens the menu of a card, by the name of its file or by its title, and presses what it has: play, save, battery, anew, begin-with or delete."""
+        self.until(lambda: self.js("""
+            const one = [...document.querySelectorAll('#list > li')].find((li) => [li.dataset.name, li.dataset.title].includes(arguments[0]));
+            one?.querySelector('.more').click();
+            return one !== undefined""", name), f'{name} is not listed')
+        if what:
+            self.click(f'#card [data-card={what}]')
+
+    def image(self, name, number, what):
+        """Presses what a card's menu has for an earlier game or a state: play, save or delete; where the number is None, for the first of them."""
+        self.card(name)
+        which = '' if number is None else f'[data-number="{number}"] '
+        self.click(f'#card .kept {which}[data-image={what}]')
+
     def give(self, *paths):
         """Chooses files, as the picker does."""
         self.browser.find_element(By.ID, 'file').send_keys('\n'.join(map(str, paths)))
 
     def rows(self):
-        return self.js("return [...document.querySelectorAll('#list > li')].map((one) => one.innerText)")
-
-    def button(self, label):
-        return self.browser.find_element(By.CSS_SELECTOR, f'[aria-label^="{label}"]')
+        """Of each card its title and file, whether it was begun, and how many more games are kept of it."""
+        return self.js("""return [...document.querySelectorAll('#list > li')].map(({ dataset }) => `${dataset.title || dataset.name} (${dataset.name}), `
+            + (dataset.begun === undefined ? 'not begun' : 'begun') + (dataset.kept === '0' ? '' : `, ${dataset.kept} more kept`))""")
 
     def shot(self, path):
         self.browser.save_screenshot(str(path))
@@ -404,7 +476,7 @@ class Playing(WithBrowser):
     def test_keys(self):
         """The demo is played by keys: a round begins, and the player walks; the state is the program's."""
         page = self.listed()
-        page.click('#demo')
+        page.demo()
         page.until_state('playing')
         page.until(lambda: page.saved() > 60, 'nothing was ever saved')
         page = self.play('demo')
@@ -489,7 +561,7 @@ class Playing(WithBrowser):
 
 LONG_PLAY = '''
 const { Library, SECTOR, Session, sectorsNeeded } = await import('./library.js');
-const library = await Library.load('gbkeep.wasm');
+const library = await Library.load('gbkeep.wasm.gz');
 const rom = new Uint8Array(await (await fetch('demo.gb')).arrayBuffer());
 const sectors = sectorsNeeded(library, rom);
 const disk = new Uint8Array(SECTOR * sectors);
@@ -530,8 +602,10 @@ class Files(WithBrowser):
         shown, picture = self.program.after(DEMO, second, save)
         page = self.listed()
         page.give(save)
+        self.assertIn('out.gbkeep is a game of GBKEEP DEMO', page.question())
+        page.answer(True)
         page.until_state('playing')
-        page.click('#close')
+        page.close()
         page.until(lambda: '1 more kept' in ''.join(page.rows()), 'the game that was replaced is not kept')
         page = self.play('demo')
         self.assertEqual(page.count(), page.saved())
@@ -612,22 +686,16 @@ class Files(WithBrowser):
                 want = self.exported(cart, save)
                 self.assertEqual(len(want), length)
                 self.assertEqual(page.battery(), want)
-                page.click('#export-battery')
-                page.until_text('The battery file was taken out.')
+                page.menu('#export-battery')
+                page.until_text('is among your downloads')
                 page.until((downloads / file.name).exists, 'nothing is among the downloads')
                 self.assertEqual((downloads / file.name).read_bytes(), want)
                 (downloads / file.name).unlink()
-                page.click('#close')
-                page.until_state('closed')
-                page.button(f'Take the battery file of {self.title_of(cart)} out').click()
-                page.until_text('was taken out')
+                page.close()
+                page.card(cart.name, 'battery')
+                page.until_text('is among your downloads')
                 [left] = page.until(lambda: list(downloads.glob('*.sav')), 'nothing is among the downloads')
                 self.assertEqual(left.read_bytes(), want)
-
-    def title_of(self, cart):
-        """What the list calls a game."""
-        rows = self.page.until(lambda: [one for one in self.page.rows() if f'({cart.name})' in one], f'{cart.name} is not listed')
-        return rows[0].split(' (')[0]
 
     def test_battery_file_of_the_list(self):
         """A game of the list is begun anew with a battery file; the one before is kept."""
@@ -638,18 +706,30 @@ class Files(WithBrowser):
         page.give(cart)
         page.until_state('paused')
         page.press(1, 77)
-        page.click('#close')
-        page.until_state('closed')
+        page.close()
         self.browser.execute_cdp_cmd('Page.enable', {})
         self.browser.execute_cdp_cmd('Page.setInterceptFileChooserDialog', {'enabled': True})
-        page.until(lambda: any(cart.name in one for one in page.rows()), 'the game is not listed')
-        page.js('document.querySelector(`[data-id="${arguments[0]}"] [aria-label*="with the battery file"]`).click()', hashlib.sha256(cart.read_bytes()).hexdigest())
+        page.card(cart.name, 'begin-with')
         self.browser.find_element(By.ID, 'battery-file').send_keys(str(file))
         page.until_text('The game begins with the battery file.')
         self.browser.execute_cdp_cmd('Page.setInterceptFileChooserDialog', {'enabled': False})
         self.assertEqual((page.count(), page.state()), (0, self.program.shows(cart, self.imported(cart, file))['state']))
-        page.click('#close')
+        page.close()
         page.until(lambda: any(cart.name in one and '1 more kept' in one for one in page.rows()), 'the game before is not kept')
+        # chosen alone, it belongs to the game of its name, and nothing is done unasked
+        before = page.rows()
+        page.give(file)
+        self.assertEqual(page.question(), 'listed.srm belongs to GBKEEP DEMO in your list: begin a new game with it?')
+        self.browser.switch_to.active_element.send_keys(Keys.ESCAPE)
+        page.until(lambda: not page.is_open('question'), 'the question stays')
+        self.assertEqual((page.state_of(), page.rows()), ('closed', before))
+        other = file.with_name('nobody.sav')
+        other.write_bytes(file.read_bytes())
+        page.give(other)
+        page.until(lambda: page.is_open('pick'), 'nothing is asked')
+        self.assertIn('Which game is nobody.sav of?', page.js("return document.getElementById('pick').textContent"))
+        page.click('#pick [data-close]')
+        self.assertEqual((page.state_of(), page.rows()), ('closed', before))
 
     def test_wrong_battery_files(self):
         """What is no battery file of the cartridge is refused in words, and leaves nothing."""
@@ -661,8 +741,7 @@ class Files(WithBrowser):
         for path, length in ((right, 32768), (short, 32767), (empty, 0)):
             path.write_bytes(bytes(length))
         before = self.listed().rows()
-        for words, *paths in (('the cartridge of this battery file is not known', right), ('battery length', cart, short), ('battery length', cart, empty),
-                              ('no battery', plain, right)):
+        for words, *paths in (('battery length', cart, short), ('battery length', cart, empty), ('no battery', plain, right)):
             with self.subTest(words=words):
                 page = self.listed()
                 page.give(*paths)
@@ -674,7 +753,7 @@ class Files(WithBrowser):
         page.give(plain)
         page.until_state('paused')
         page.press(0, 10)
-        page.click('#export-battery')
+        page.menu('#export-battery')
         page.until_text('no battery')
         page.press(0, 10)
         self.assertEqual((page.state_of(), page.save()), ('paused', 20))
@@ -696,6 +775,9 @@ class Files(WithBrowser):
         page = self.listed()
         before = page.rows()
         page.give(damaged)
+        page.until(lambda: page.is_open('question') or page.state_of() == 'refused', 'nothing is said')
+        if page.is_open('question'):
+            page.answer(True)
         page.until_text('damaged snapshot')
         self.assertEqual(page.state_of(), 'refused')
         page = self.listed()
@@ -720,29 +802,46 @@ class Files(WithBrowser):
         self.assertEqual(page.state_of(), 'refused')
         self.assertEqual(page.wait_for(digest_there, ident), there)
         # what is kept of it can be taken out and deleted
-        self.assertTrue(page.button('Take the SAVE of'))
+        page.card('passes.gb')
+        self.assertTrue(page.js("return ['save', 'delete'].every((one) => document.querySelector(`#card [data-card=${one}]`)?.offsetParent)"))
 
-    def test_slots(self):
-        """The slot is a copy; going back loses no game."""
+    def test_save_states(self):
+        """A save state is a copy; loading one loses no game, and each step is undone."""
         page = self.play('fails')
         page.press(0, 100)
-        page.click('#go-back')
-        page.until_text('the slot is empty')
-        page.click('#keep-slot')
-        page.until_text('Kept in the slot: 100')
+        self.browser.find_element(By.ID, 'screen').send_keys(Keys.F9)
+        page.until_text('empty')
+        self.assertEqual((page.state_of(), page.count()), ('paused', 100))
+        page.keep(1)
         state = page.state()
         page.press(1, 50)
         page.save()
-        page.click('#go-back')
-        page.until_text('Back to the slot: 100')
+        there = page.state()
+        page.load(1)
         self.assertEqual((page.count(), page.state()), (100, state))
+        page.click('#toasts .toast:last-child button')
+        page.until_text('Back in the game before')
+        self.assertEqual((page.count(), page.state()), (150, there))
+        page.load(1)
         page.press(2, 10)
         self.assertEqual(page.save(), 110)
         self.browser.find_element(By.ID, 'screen').send_keys(Keys.F5)
-        page.until_text('Kept in the slot: 110')
-        page = self.listed()
-        row = next(one for one in page.rows() if 'fails' in one.lower())
-        self.assertIn('3 more kept', row)
+        page.until_text('Saved to state 1')
+        page.keep(10)
+        page.click('#toasts .toast:last-child button')
+        page.until_text('State 10 is as it was before')
+        page.menu('[data-act=States]')
+        page.until(lambda: page.js("return document.querySelectorAll('#states-list li').length") == 10, 'there are not ten')
+        self.assertEqual(page.js("return document.querySelectorAll('#states-list li.empty').length"), 9)
+        self.assertTrue(page.js("return document.querySelector('#states-list [data-slot=\"10\"] [data-state-act=load]').disabled"))
+        page.click('#states-list [data-slot="1"] [data-state-act=undo]')
+        page.until_text('State 1 is as it was before')
+        page.load(1)
+        self.assertEqual((page.count(), page.state()), (100, state))
+        page.states(1, 'delete')
+        page.until_text('State 1 was deleted')
+        self.browser.find_element(By.ID, 'screen').send_keys(Keys.F9)
+        page.until_text('empty')
 
     def test_new_game(self):
         """A new game of a cartridge is begun beside the present one, which is kept and can be played again."""
@@ -750,18 +849,22 @@ class Files(WithBrowser):
         page.press(0, 77)
         page.save()
         page = self.listed()
-        name = next(one.split('\n')[0] for one in page.rows() if 'copy.gb' in one).split(' (')[0]
-        page.button(f'Begin {name} anew').click()
+        page.card('copy.gb', 'anew')
+        page.answer(False)
+        self.assertEqual(page.state_of(), 'closed')
+        page.card('copy.gb', 'anew')
+        self.assertIn('over?', page.question())
+        page.answer(True)
         page.until_state('playing')
         page.click('#pause')
         page.until_state('paused')
         self.assertLess(page.count(), 77)
-        page.click('#close')
+        page.close()
         page.until(lambda: any('copy.gb' in one and '1 more kept' in one for one in page.rows()), 'the game before is not kept')
-        page.click('details summary')
-        page.button('Play a game that was replaced').click()
-        time.sleep(0.5)
-        self.assertEqual(self.play('copy').count(), 77)
+        page.image('copy.gb', None, 'play')
+        page.until_state('playing')
+        page.click('#pause')
+        self.assertGreaterEqual(page.count(), 77)
 
     def test_two_tabs(self):
         """A second tab of a game is told so, and changes nothing."""
@@ -787,14 +890,13 @@ class Files(WithBrowser):
         page.press(0, 10)
         page.save()
         page = self.listed()
-        name = next(one.split('\n')[0] for one in page.rows() if 'halting' in one.lower())
-        label = name.split(' (')[0]
-        page.button(f'Delete {label}').click()
-        page.until(lambda: page.js("return document.getElementById('question').open"), 'there is no question')
-        page.click('#no')
+        page.card('halting.gb', 'delete')
+        page.question()
+        self.assertEqual([page.js(f"return document.getElementById('{one}').textContent") for one in ('yes', 'no')], ['Delete', 'Cancel'])
+        page.answer(False)
         self.assertTrue(any('halting' in one.lower() for one in page.rows()))
-        page.button(f'Delete {label}').click()
-        page.click('#yes')
+        page.card('halting.gb', 'delete')
+        page.answer(True)
         page.until_text('was deleted')
         self.assertFalse(any('halting' in one.lower() for one in page.rows()))
 
@@ -825,8 +927,7 @@ class Files(WithBrowser):
         """The clock is given the seconds that pass, also while the game is closed, and no more."""
         page, began = self.play('clock', ''), time.time()
         page.until(lambda: page.saved() > 70, 'nothing was ever saved')
-        page.click('#close')
-        page.until_state('closed')
+        page.close()
         time.sleep(4)
         page = self.play('clock', '')
         page.until(lambda: page.saved() > 150, 'nothing was ever saved')
@@ -987,16 +1088,10 @@ class Rewound(WithBrowser):
         self.assertEqual((page.save(), page.state(), page.picture()), (count + 1 + sum(frames for _, frames in inputs), shown['state'], picture))
         self.saved_as_shown('demo')
         begun, count, state = self.at_power_on(), page.count(), page.state()
-        is_asked = "return document.getElementById('question').open"
-        page.click('#power')
-        page.until(lambda: page.js(is_asked), 'nothing is asked')
-        page.click('#no')
-        page.until(lambda: not page.js(is_asked), 'the question stays')
+        page.reset(False)
         self.assertEqual((page.save(), page.state()), (count, state))
-        page.click('#power')
-        page.until(lambda: page.js(is_asked), 'nothing is asked')
-        page.click('#yes')
-        page.until_text('The power was switched off and on')
+        page.reset(True)
+        page.until_text('The game was reset')
         self.assertEqual((page.save(), page.state(), page.state_of()), (count + 1, self.program.shows(DEMO, begun)['state'], 'paused'))
         # a power switch that was not meant
         self.assertEqual(self.rewind(1), count + 2)
@@ -1053,6 +1148,9 @@ class Rewound(WithBrowser):
         count = self.page.count()
         self.page.until(lambda: self.page.count() > count + frames, 'it never runs')
 
+    def rewinds(self):
+        self.page.until(lambda: re.search(r'^back [0-9.]+ s', self.page.js("return document.getElementById('saved').innerText.trim()")), 'it never rewinds')
+
     def rewound_by(self):
         line = self.page.until_text('Rewound by')
         return float(re.search(r'by ([0-9.]+) seconds', line)[1])
@@ -1064,7 +1162,7 @@ class Rewound(WithBrowser):
         begun = page.count()
         self.plays(240)
         ActionChains(self.browser.driver).key_down('r').perform()
-        page.until_text('Rewinding.')
+        self.rewinds()
         count = saved = 0
         until = time.monotonic() + 2.5
         while time.monotonic() < until:
@@ -1084,7 +1182,7 @@ class Rewound(WithBrowser):
         page.js("""
             window.held = new Set([6]);
             navigator.getGamepads = () => [{ mapping: 'standard', axes: [0, 0, 0, 0], buttons: [...Array(17).keys()].map((one) => ({ pressed: held.has(one) })) }];""")
-        page.until_text('Rewinding.')
+        self.rewinds()
         time.sleep(0.5)
         page.js('held.clear()')
         self.assertGreater(self.rewound_by(), 0.2)
@@ -1332,7 +1430,7 @@ class Room(WithBrowser):
         try:
             page.press(1, 200)
             self.assertEqual(page.save(), 250)
-            page.click('#keep-slot')
+            page.states(1, 'keep')
             page.until_text('there is no room')
             self.assertEqual(page.state_of(), 'paused')
             self.assertEqual(page.press(0, 5), 255)
@@ -1357,32 +1455,57 @@ class Room(WithBrowser):
         self.assertEqual(page.save(), 3)
 
     def test_full_disk(self):
-        """A disk that fills up while a game is played: the game goes on, or stops with what was told."""
-        disk = self.room / 'disk'
-        disk.mkdir()
-        if run('mount', '-t', 'tmpfs', '-o', 'size=96m', 'none', disk).returncode != 0:
+        """A disk that fills up while a game is played: the game goes on and saves, what is new is refused in words and leaves nothing, and once there is room
+        again all is there."""
+        profile = self.room / 'full'
+        # the files of pages alone lie on it: a browser without room for its own files ends
+        disk = profile / 'Default/File System'
+        disk.mkdir(parents=True)
+        if run('mount', '-t', 'tmpfs', '-o', 'size=4m', 'none', disk).returncode != 0:
             self.skipTest('no disk can be mounted here')
-        other = None
+        other, filler = None, disk / 'filler'
         try:
-            other = Browser(disk / 'profile')
-            page = Page(other).open(self.server.url('?cart=demo.gb&speed=max'))
-            page.until(lambda: page.saved() > 100, 'nothing was ever saved')
-            with contextlib.suppress(OSError), (disk / 'filler').open('wb', buffering=0) as filler:
-                while True:
-                    filler.write(bytes(1 << 16))
-            begun = page.saved()
-            with contextlib.suppress(AssertionError):
-                page.until(lambda: page.state_of() == 'refused' or page.saved() > begun + 5000, '', 10)
-            self.assertIn(page.state_of(), ('playing', 'refused'))
-            if page.state_of() == 'playing':
-                # the image has all its room: a copy of it has none
-                page.click('#keep-slot')
-                page.until_text('there is no room')
-                self.assertEqual(page.state_of(), 'playing')
-            told = page.saved()
-            (disk / 'filler').unlink()
+            other = Browser(profile)
             page = Page(other).open(self.server.url('?cart=demo.gb&paused=1'))
-            self.assertGreaterEqual(page.saved(), told)
+            page.press(1, 100)
+            page.keep(1)
+            kept = page.state()
+            with contextlib.suppress(OSError), filler.open('wb', buffering=0) as file:
+                while True:
+                    file.write(bytes(4096))
+            # the image has all its room
+            for count in range(200, 1200, 100):
+                page.press(2, 100)
+                self.assertEqual(page.save(), count)
+            state = page.state()
+            # nothing can be made; the file can, and not all of its bytes
+            for left in (0, 1 << 16):
+                os.truncate(filler, filler.stat().st_size - left)
+                for slot, act in ((2, 'keep'), (1, 'load')):
+                    number = page.status()['number']
+                    page.states(slot, act)
+                    page.until(lambda: page.status()['number'] != number, 'nothing is said')
+                    self.assertIn('There is no room', page.text())
+            self.assertEqual((page.state_of(), page.save(), page.state()), ('paused', 1100, state))
+            page = Page(other).open(self.server.url('?cart=passes.gb'))
+            page.until_text('there is no room')
+            self.assertEqual(page.state_of(), 'refused')
+            self.assertEqual(len(page.open(self.server.url()).rows()), 1)
+            page = Page(other).open(self.server.url('?cart=demo.gb&paused=1'))
+            self.assertEqual((page.count(), page.state()), (1100, state))
+            filler.unlink()
+            page.press(4, 100)
+            self.assertEqual(page.save(), 1200)
+            state = page.state()
+            page.keep(2)
+            page.load(1)
+            self.assertEqual(page.state(), kept)
+            page.load(2)
+            self.assertEqual(page.state(), state)
+            other.kill()
+            other = Browser(profile)
+            page = Page(other).open(self.server.url('?cart=demo.gb&paused=1'))
+            self.assertEqual((page.count(), page.state()), (1200, state))
         finally:
             if other:
                 other.close()
@@ -1399,7 +1522,7 @@ class Around(WithBrowser):
             given.items.add(new File([new Uint8Array(arguments[0])], 'dropped.gb'));
             document.dispatchEvent(new DragEvent('drop', { dataTransfer: given, bubbles: true, cancelable: true }));""", list(self.carts['passes'].read_bytes()))
         page.until_state('playing')
-        page.click('#close')
+        page.close()
         page.until(lambda: 'dropped.gb' in ''.join(page.rows()), 'the game is not listed')
 
     def test_gamepad(self):
@@ -1429,11 +1552,12 @@ class Around(WithBrowser):
             const canvas = document.getElementById('screen');
             const data = canvas.getContext('2d').getImageData(0, 0, 160, 144).data;
             return [[...data].filter((_, k) => k % 4 < 3), parseFloat(canvas.style.width) * devicePixelRatio / 160];"""
-        number = page.js("return document.getElementById('palette').selectedIndex")
+        chosen = "return Number(document.querySelector('[name=palette]:checked').value)"
+        number = page.js(chosen)
         for _ in range(len(PALETTES)):
             self.browser.find_element(By.ID, 'screen').send_keys(Keys.F2)
             number = (number + 1) % len(PALETTES)
-            self.assertEqual(page.js("return document.getElementById('palette').selectedIndex"), number)
+            self.assertEqual(page.js(chosen), number)
             colours, scale = page.js(there)
             self.assertEqual(bytes(colours), bytes(one for shade in shades for one in PALETTES[number][shade]))
             self.assertEqual(scale % 1, 0)
@@ -1449,7 +1573,7 @@ class Around(WithBrowser):
         self.server.close()
         try:
             page.open(self.server.url())
-            page.click('#demo')
+            page.demo()
             page.until_state('playing')
             page.until(lambda: page.saved() > 60, 'nothing was ever saved')
             page.open(self.server.url('?cart=elsewhere.gb'))
@@ -1457,18 +1581,19 @@ class Around(WithBrowser):
         finally:
             type(self).server = Server(self.site, port)
 
-    def test_no_memories(self):
-        """A browser without 64-bit memories is told so in a sentence."""
+    def test_old_browser(self):
+        """A browser without SIMD is told so in a sentence, with what to do."""
         other = self.room / 'other'
         shutil.copytree(self.site, other)
         text = (other / 'library.js').read_text()
-        self.assertIn('5, 3, 1, 4, 1]', text)
-        (other / 'library.js').write_text(text.replace('5, 3, 1, 4, 1]', '5, 3, 1, 64, 1]'))
+        self.assertEqual(text.count('0xfd, 98, 0x0b'), 1)
+        (other / 'library.js').write_text(text.replace('0xfd, 98, 0x0b', '0xfd, 255, 0x0b'))
         list_files(other)
         server = Server(other)
         try:
             self.page.open(server.url())
-            self.page.until_text('this browser has no 64-bit memories')
+            self.page.until_text('this browser is too old')
+            self.assertIn('take Chromium', self.page.text())
             self.assertEqual(self.page.state_of(), 'refused')
         finally:
             server.close()
@@ -1507,62 +1632,6 @@ class Around(WithBrowser):
         finally:
             server.close()
 
-    def test_accessible(self):
-        """Each control has a name; the keyboard alone opens a game, and leaves it."""
-        page = self.listed()
-        nodes = self.browser.execute_cdp_cmd('Accessibility.getFullAXTree', {})['nodes']
-        controls = [node for node in nodes if node.get('role', {}).get('value') in ('button', 'checkbox', 'combobox', 'application') and not node.get('ignored')]
-        self.assertTrue(controls)
-        self.assertEqual([node for node in controls if not node.get('name', {}).get('value')], [])
-        body = self.browser.find_element(By.TAG_NAME, 'body')
-        body.send_keys(Keys.TAB)
-        for _ in range(10):
-            if page.js('return document.activeElement.id') == 'demo':
-                break
-            self.browser.switch_to.active_element.send_keys(Keys.TAB)
-        self.browser.switch_to.active_element.send_keys(Keys.ENTER)
-        page.until_state('playing')
-        self.assertEqual(page.js('return document.activeElement.id'), 'screen')
-        nodes = self.browser.execute_cdp_cmd('Accessibility.getFullAXTree', {})['nodes']
-        controls = [node for node in nodes if node.get('role', {}).get('value') in ('button', 'checkbox', 'combobox', 'application') and not node.get('ignored')]
-        self.assertGreater(len(controls), 8)
-        self.assertEqual([node for node in controls if not node.get('name', {}).get('value')], [])
-        self.browser.switch_to.active_element.send_keys(Keys.ESCAPE)
-        page.until_state('paused')
-        self.assertEqual(page.js('return document.activeElement.id'), 'pause')
-        self.browser.switch_to.active_element.send_keys(Keys.TAB)
-        self.assertEqual(page.js('return document.activeElement.id'), 'close')
-        self.browser.switch_to.active_element.send_keys(Keys.ENTER)
-        page.until_state('closed')
-        page.until(lambda: 'last saved' in ''.join(page.rows()), 'the game is not listed')
-        self.assertRegex(page.js("return document.getElementById('kept').textContent"), 'keeps the games|does not promise')
-
-    def test_phone(self):
-        """A phone's size, with touch: the buttons play, and nothing is wider than the screen."""
-        self.browser.execute_cdp_cmd('Emulation.setDeviceMetricsOverride', {'width': 390, 'height': 844, 'deviceScaleFactor': 3, 'mobile': True})
-        self.browser.execute_cdp_cmd('Emulation.setTouchEmulationEnabled', {'enabled': True})
-        try:
-            page = self.play('demo')
-            if not page.js("return document.getElementById('touch').checked"):
-                page.click('#touch')
-            page.press(0, ROUND)
-            self.assertLessEqual(page.js('return document.documentElement.scrollWidth'), 390)
-            page.click('#pause')
-            page.until_state('playing')
-            place = page.js("const r = document.querySelector('[data-button=Start]').getBoundingClientRect(); return [r.x + r.width / 2, r.y + r.height / 2]")
-            self.assertLess(place[1], 844)
-            before = page.picture()
-            self.browser.execute_cdp_cmd('Input.dispatchTouchEvent', {'type': 'touchStart', 'touchPoints': [{'x': place[0], 'y': place[1]}]})
-            self.assertTrue(page.js("return document.querySelector('[data-button=Start]').classList.contains('held')"))
-            time.sleep(0.3)
-            self.browser.execute_cdp_cmd('Input.dispatchTouchEvent', {'type': 'touchEnd', 'touchPoints': []})
-            self.assertFalse(page.js("return document.querySelector('[data-button=Start]').classList.contains('held')"))
-            self.assertTrue(asks_for_start(before))
-            page.until(lambda: not asks_for_start(page.picture()), 'Start does nothing')
-        finally:
-            self.browser.execute_cdp_cmd('Emulation.clearDeviceMetricsOverride', {})
-            self.browser.execute_cdp_cmd('Emulation.setTouchEmulationEnabled', {'enabled': False})
-
     def test_nothing_is_logged(self):
         page = self.play('demo', '')
         page.until(lambda: page.saved() > 0, 'nothing was ever saved')
@@ -1571,71 +1640,10 @@ class Around(WithBrowser):
         self.assertEqual(wrong, [])
 
 
-class Reporting(Quiet):
-    """Takes what the page reports."""
-
-    def do_POST(self):
-        self.server.reports.append(json.loads(self.rfile.read(int(self.headers['Content-Length']))))
-        self.server.reported.set()
-        self.send_response(204)
-        self.end_headers()
-
-
-REPORTS = '''
-const report = (what) => fetch('/report', { method: 'POST', body: JSON.stringify({ ...what, status: document.getElementById('status').textContent }) });
-(async () => {
-  while (!document.documentElement.dataset.ready) { await new Promise((done) => { setTimeout(done, 50); }); }
-  const begun = Number(document.getElementById('status').dataset.count);
-  for (let k = 0; k < 10; k += 1) { await window.gbkeep.press(1 << (k % 8), 60); }
-  await report({ begun, saved: await window.gbkeep.save(), state: await window.gbkeep.state() });
-  for (;;) { await window.gbkeep.press(1, 30); await window.gbkeep.save(); }
-})().catch((error) => report({ failed: String(error) }));
-'''
-
-
-class Firefox(unittest.TestCase):
-    """Debian's Firefox, where it is installed: without a driver, the page itself reports."""
-
-    def test_firefox(self):
-        """It plays as the program does, and goes on after a SIGKILL."""
-        program = shutil.which('firefox-esr')
-        if not program:
-            self.skipTest("there is no firefox-esr")
-        with tempfile.TemporaryDirectory(prefix='web-', ignore_cleanup_errors=True) as name:
-            room = Path(name)
-            site = room / 'site'
-            shutil.copytree(DIST, site)
-            (site / 'page.js').write_text((site / 'page.js').read_text() + REPORTS)
-            list_files(site)
-            server = Server(site, kind=Reporting)
-            server.server.reports, server.server.reported = [], threading.Event()
-            inputs = [(1 << (number % 8), 60) for number in range(10)]
-            try:
-                for life in range(3):
-                    server.server.reported.clear()
-                    process = subprocess.Popen([program, '--headless', '--no-remote', '--profile', str(room), server.url('?cart=demo.gb&paused=1')], start_new_session=True,
-                                               env={**os.environ, 'HOME': name}, stdout=subprocess.DEVNULL, stderr=subprocess.DEVNULL)
-                    try:
-                        self.assertTrue(server.server.reported.wait(240), 'nothing was reported')
-                        time.sleep(0.5)
-                    finally:
-                        os.killpg(process.pid, signal.SIGKILL)
-                        process.wait()
-                    report = server.server.reports[-1]
-                    self.assertNotIn('failed', report)
-                    if life == 0:
-                        self.assertEqual(report['state'], Program(room).after(DEMO, inputs)[0]['state'])
-                        self.assertEqual(report['saved'], 600)
-                    else:
-                        self.assertGreaterEqual(report['begun'], server.server.reports[-2]['saved'])
-            finally:
-                server.close()
-
-
 # the module by itself: each frame with its picture
 ALONE = '''
 const { Library, Session, sectorsNeeded } = await import('./library.js');
-const library = await Library.load('gbkeep.wasm');
+const library = await Library.load('gbkeep.wasm.gz');
 const rom = new Uint8Array(await (await fetch(given[0])).arrayBuffer());
 const session = Session.begin(library, rom, sectorsNeeded(library, rom));
 session.frames(0, 1200);
@@ -1652,9 +1660,34 @@ return [times[300], times.at(-1)];'''
 
 
 class Measured(WithBrowser):
+    def processor(self):
+        """The seconds of a processor that this browser has taken."""
+        main, ticks = self.browser.main_processes(), 0
+        for one in main + descendants(main):
+            with contextlib.suppress(OSError):
+                ticks += sum(map(int, Path(f'/proc/{one}/stat').read_text().rsplit(')', 1)[1].split()[11:13]))
+        return ticks / os.sysconf('SC_CLK_TCK')
+
+    def shown(self):
+        """What a game takes that is shown at 4 times its size."""
+        self.browser.execute_cdp_cmd('Emulation.setDeviceMetricsOverride', {'width': 760, 'height': 640, 'deviceScaleFactor': 1, 'mobile': False})
+        page = self.play('demo', '')
+        time.sleep(3)
+        shares = []
+        for _ in range(3):
+            taken, count, begun = self.processor(), page.count(), time.monotonic()
+            time.sleep(8)
+            took = time.monotonic() - begun
+            shares.append(100 * (self.processor() - taken) / took)
+            rate = (page.count() - count) / took
+        width = page.js("return document.getElementById('screen').getBoundingClientRect().width")
+        print(f'shown at {width / 160:.0f} times, {rate:.1f} frames a second: {min(shares):.0f} to {max(shares):.0f} % of a processor')
+        self.browser.execute_cdp_cmd('Emulation.clearDeviceMetricsOverride', {})
+
     def runTest(self):
         ready = [int(self.listed().js('return document.documentElement.dataset.ready')) for _ in range(5)]
         print(f'ready after {min(ready)} ms at best, {statistics.median(ready):.0f} as the median of {len(ready)}')
+        self.shown()
         for name in ('busy', 'scrolling', 'halting', 'demo'):
             page = self.play(name)
             page.press(0, 600)
@@ -1676,23 +1709,35 @@ class Measured(WithBrowser):
             time.sleep(4)
             after = page.js(text)
             print(f'{name}: {1000 * (after[1] - before[1]) / (after[0] - before[0]):.0f} frames a second shown and saved, at speed=max')
-        print(f'dist/web: {sum(path.stat().st_size for path in DIST.iterdir()):,} bytes')
+        print(f'web/page: {sum(path.stat().st_size for path in DIST.iterdir()):,} bytes')
 
 
 class Shots(WithBrowser):
-    def runTest(self):
-        tour = [line.split() for line in (TOP / 'examples/demo/tour.txt').read_text().splitlines()]
+    def tour(self, steps):
         page = self.play('demo')
-        for words in tour[:25]:
+        for words in [line.split() for line in (TOP / 'examples/demo/tour.txt').read_text().splitlines()][:steps]:
             if words[0] == 'frames':
                 page.press(int(words[1], 16), int(words[2]))
         page.save()
-        self.browser.set_window_size(760, 640)
+
+    def runTest(self):
+        self.browser.execute_cdp_cmd('Emulation.setEmulatedMedia', {'features': [{'name': 'prefers-color-scheme', 'value': 'light'}]})
+        self.browser.execute_cdp_cmd('Emulation.setDeviceMetricsOverride', {'width': 800, 'height': 640, 'deviceScaleFactor': 1, 'mobile': False})
+        self.tour(25)
+        for name, frames in (('wave', 13_000), ('scrolling', 9_000)):
+            self.play(name).press(0, frames)
+            self.page.save()
+        page = self.play('demo', '')
+        page.until(lambda: page.count() > page.saved() > 500, 'nothing was ever saved')
         page.shot(TOP / 'docs/browser.png')
-        self.browser.execute_cdp_cmd('Emulation.setDeviceMetricsOverride', {'width': 390, 'height': 844, 'deviceScaleFactor': 1, 'mobile': True})
-        page = self.play('demo')
-        if not page.js("return document.getElementById('touch').checked"):
-            page.click('#touch')
+        page.close()
+        self.browser.execute_cdp_cmd('Emulation.setDeviceMetricsOverride', {'width': 800, 'height': 500, 'deviceScaleFactor': 1, 'mobile': False})
+        page.until(lambda: page.text() == '' and page.js("return document.querySelectorAll('.toast').length") == 0, 'a line stays')
+        page.shot(TOP / 'docs/browser_home.png')
+        self.browser.execute_cdp_cmd('Emulation.setDeviceMetricsOverride', {'width': 390, 'height': 760, 'deviceScaleFactor': 1.5, 'mobile': True})
+        self.browser.execute_cdp_cmd('Emulation.setTouchEmulationEnabled', {'enabled': True})
+        page = self.play('demo', '')
+        page.until(lambda: page.count() > page.saved() > 0, 'nothing was ever saved')
         page.shot(TOP / 'docs/browser_phone.png')
 
 
@@ -1703,8 +1748,8 @@ def main(usage, kinds, others=None):
     if len(sys.argv) < 2:
         sys.exit(usage)
     GBKEEP = str(Path(sys.argv[1]).resolve())
-    if not (DIST / 'gbkeep.wasm').exists():
-        sys.exit(f'{script}: there is no dist/web: make web leaves it')
+    if not (DIST / 'gbkeep.wasm.gz').exists():
+        sys.exit(f'{script}: {DIST} has no gbkeep.wasm.gz: make web leaves one in web/page')
     wanted, suite, loader = sys.argv[2:], unittest.TestSuite(), unittest.TestLoader()
     if len(wanted) == 1 and wanted[0] in (others or {}):
         suite.addTest(others[wanted[0]]())
@@ -1718,4 +1763,4 @@ def main(usage, kinds, others=None):
 
 
 if __name__ == '__main__':
-    sys.exit(main(__doc__, (Playing, Files, Clocks, Rewound, Traced, Room, Around, Firefox, Killed), {'measure': Measured, 'shots': Shots}))
+    sys.exit(main(__doc__, (Playing, Files, Clocks, Rewound, Traced, Room, Around, Killed), {'measure': Measured, 'shots': Shots}))

@@ -48,11 +48,6 @@
 #define SAVE_MILLISECONDS 60000
 #endif
 
-/* A session keeps each call that it has handed out, some 1,100 bytes: after so many it is taken up anew. */
-#ifndef MOST_CALLS
-#define MOST_CALLS 32768
-#endif
-
 /* the names that every C library from 2018 on has, where the newest ones have others, too */
 #if defined __GLIBC__ && defined __x86_64__
 __asm__(".symver pthread_create, pthread_create@GLIBC_2.2.5\n.symver pthread_join, pthread_join@GLIBC_2.2.5\n.symver pthread_detach, pthread_detach@GLIBC_2.2.5");
@@ -127,7 +122,7 @@ struct time_line {
     long long seconds;
 };
 
-enum work { NO_WORK, SAVE, CLAIM, NOTE, RENEW };
+enum work { NO_WORK, SAVE, CLAIM, NOTE };
 enum outcome { RUNNING, DONE, FAILED, LEFT };
 
 /* What the thread does. Once it is left, the thread frees it: it has all that it needs. */
@@ -146,8 +141,6 @@ struct job {
     char clock_file[PATH_MAX];
     struct time_line lines[2];
     int line_count;
-    /* a session that was taken up anew */
-    gbkeep_session *fresh;
 };
 
 enum news { NEWS, REFUSAL };
@@ -159,9 +152,9 @@ static struct {
     gbkeep_machine *machine;
     struct job *job;
     int file;
+    /* the image, while a game is made or taken up: what the calls that were handed out leave of SAVE */
     uint8_t *rom, *image, *state;
-    size_t rom_length, state_length, calls;
-    /* the image is what the calls that were handed out leave of SAVE */
+    size_t rom_length, state_length;
     uint32_t sectors;
     char cart[PATH_MAX], save[PATH_MAX], clock_file[PATH_MAX];
     bool has_clock, gives_time_away, is_new, imports;
@@ -173,7 +166,7 @@ static struct {
     unsigned long long count, asked, saved;
     /* the save that was asked for: until when the clock was given, whether SAVE.time is to be told of it */
     long long asked_until;
-    bool is_noted, renews;
+    bool is_noted;
     /* a state or the power switch is unsaved: the next save writes a whole state */
     bool is_whole;
     /* the clock's time: until when it was given, what SAVE.time says of that, and the session's own time */
@@ -548,8 +541,6 @@ static void *work(void *given) {
     bool good = false;
     if (job->work == SAVE)
         good = make_calls(job);
-    else if (job->work == RENEW)
-        good = gbkeep_session_resume(game.rom, game.rom_length, game.image, (size_t)game.sectors * SECTOR, &job->fresh) == GBKEEP_DONE;
     else
         good = write_clock_file(job->clock_file, job->file, job->lines, job->line_count);
     if (!atomic_compare_exchange_strong(&job->outcome, &running, good ? DONE : FAILED)) {
@@ -596,14 +587,12 @@ static void leave_work(void) {
 /* Ends the game. What is unsaved is lost. */
 static void end_game(void) {
     struct job *job = game.job;
-    /* what takes a session up reads the game, and comes to its end */
-    if (job && job->work != NO_WORK && job->work != RENEW)
+    if (job && job->work != NO_WORK)
         leave_work();
     job = game.job;
     if (job) {
         if (job->work != NO_WORK && job->has_thread)
             pthread_join(job->thread, NULL);
-        gbkeep_session_free(job->fresh);
         /* the file is the game's */
         job->file = -1;
         free_job(job);
@@ -631,7 +620,7 @@ static bool give_up_by(uint32_t code) {
 /* Takes the calls that the session hands out, for the thread. */
 static bool take_calls(gbkeep_session *session) {
     struct job *job = game.job;
-    for (;; job->count++, game.calls++) {
+    for (;; job->count++) {
         if (job->count == job->room) {
             size_t room = 2 * job->room + 256;
             gbkeep_call *calls = realloc(job->calls, room * sizeof *calls);
@@ -645,7 +634,7 @@ static bool take_calls(gbkeep_session *session) {
             return true;
         if (call->kind == GBKEEP_WRITE && call->sector >= game.sectors)
             return false;
-        if (call->kind == GBKEEP_WRITE)
+        if (game.image && call->kind == GBKEEP_WRITE)
             memcpy(game.image + (size_t)call->sector * SECTOR, call->bytes, SECTOR);
     }
 }
@@ -653,38 +642,17 @@ static bool take_calls(gbkeep_session *session) {
 /* Has the thread save what is unsaved. SAVE.time is to name the save where nothing else is written there for it. */
 static bool ask_save(bool is_noted) {
     uint64_t count = 0;
-    /* behind a state a save has all of the machine, and nothing has to be played again to take the session up from it */
-    game.renews = game.calls > MOST_CALLS && gbkeep_session_state(game.session, game.state, game.state_length) == GBKEEP_DONE
-        && gbkeep_session_restore(game.session, game.state, game.state_length) == GBKEEP_DONE;
-    game.count += game.renews;
     game.job->count = 0;
     uint32_t code = gbkeep_session_save(game.session, &count);
-    /* for want of memory the inputs stay unsaved, and are saved by the next one */
-    if (code != GBKEEP_DONE && code != GBKEEP_NO_MEMORY)
+    if (code != GBKEEP_DONE)
         return give_up_by(code);
     if (!take_calls(game.session))
         return give_up("no memory");
-    if (code == GBKEEP_DONE)
-        game.asked = count, game.is_whole = false;
-    game.renews = game.renews && code == GBKEEP_DONE;
+    game.asked = count, game.is_whole = false;
     game.played = 0, game.saved_frame = game.frame;
     game.is_noted = is_noted, game.asked_until = game.given_until;
     begin_work(SAVE);
     return true;
-}
-
-/* Goes on with the session that was taken up from SAVE's sectors as they were saved last, by the state that the old one has now. */
-static bool go_on(gbkeep_session *fresh) {
-    uint64_t count = gbkeep_session_count(fresh);
-    if (gbkeep_session_state(game.session, game.state, game.state_length) != GBKEEP_DONE
-        || gbkeep_session_restore(fresh, game.state, game.state_length) != GBKEEP_DONE) {
-        gbkeep_session_free(fresh);
-        return true;
-    }
-    gbkeep_session_free(game.session);
-    game.session = fresh;
-    game.asked = count, game.count = count + 1;
-    return ask_save(false);
 }
 
 /* ---- the cartridge's clock */
@@ -850,8 +818,6 @@ static bool look_around(void) {
     if (job->work == NO_WORK)
         return true;
     int outcome = atomic_load(&job->outcome);
-    if (outcome == RUNNING && job->work == RENEW)
-        return true;
     if (outcome == RUNNING) {
         long long slow = milliseconds() - job->since;
         if (slow > SAVE_MILLISECONDS)
@@ -873,20 +839,12 @@ static bool look_around(void) {
         game.saved = game.asked;
         if (!is_told)
             tell(NEWS, 60, NULL, "saved %llu", game.saved);
-        if (game.renews)
-            begin_work(RENEW);
-        if (is_told || game.renews)
+        if (is_told)
             return true;
         struct time_line line = {game.saved, game.asked_until};
         if (game.has_clock && game.is_noted && !game.clock_stands && game.saved > game.written.count)
             begin_lines(NOTE, &line, 1);
         return true;
-    }
-    if (done == RENEW) {
-        gbkeep_session *fresh = job->fresh;
-        job->fresh = NULL;
-        game.calls = 0;
-        return outcome != DONE || go_on(fresh);
     }
     if (note_clock(outcome == DONE))
         game.written = job->lines[0];
@@ -1186,6 +1144,8 @@ static bool take_up(void) {
     if ((game.is_new && !begin_game()) || !open_save())
         return false;
     code = gbkeep_session_resume(game.rom, game.rom_length, game.image, (size_t)game.sectors * SECTOR, &game.session);
+    free(game.image);
+    game.image = NULL;
     if (code != GBKEEP_DONE)
         return fail_by(code, "stream");
     game.state_length = gbkeep_session_state_length(game.session);

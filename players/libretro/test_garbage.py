@@ -20,7 +20,7 @@ HEADERS = os.environ.get('LIBRETRO', '/usr/include/libretro-common')
 COMPILER = os.environ.get('CC', 'cc')
 # a session is taken up anew every few saves
 FLAGS = ['-std=c11', '-g', '-O1', '-Wall', '-Wextra', '-Werror', '-fPIC', '-shared', '-fsanitize=address,undefined', '-fno-sanitize-recover=all',
-         '-fno-omit-frame-pointer', '-DEND_MILLISECONDS=500', '-DSLOW_MILLISECONDS=200', '-DSAVE_MILLISECONDS=1000', '-DMOST_CALLS=200', '-pthread', '-Wl,-z,nodelete']
+         '-fno-omit-frame-pointer', '-DEND_MILLISECONDS=500', '-DSLOW_MILLISECONDS=200', '-DSAVE_MILLISECONDS=1000', '-pthread', '-Wl,-z,nodelete']
 # what a run may take on a busy computer
 MOST_SECONDS = 30
 PROGRAM = '''#!{python} -SE

@@ -1,6 +1,7 @@
 """Save slots: files that take one another's place so that no game is lost, whatever a player presses and whenever the power is cut.
 
-A slot of SAVE is SAVE.slot, a copy that is made while nothing is unsaved. Going back puts a copy of the slot in the place of SAVE. A game that is
+A slot of SAVE is SAVE.slot1 to SAVE.slot10, a copy that is made while nothing is unsaved; a SAVE.slot is the first, where there is no SAVE.slot1. Going back
+puts a copy of the slot in the place of SAVE. A game that is
 replaced, in SAVE or in the slot, is kept as SAVE.before, SAVE.before.2 and so on, unless it stands in one of these or in the other one already.
 
 Each copy is made under a name that nobody has, synced, and only then renamed; before a slot takes the place of SAVE, `gbkeep show` has to take its
@@ -32,8 +33,11 @@ class NotReplaced(Exception):
     """Nothing was replaced: why, in a line."""
 
 
-def slot_of(save: object) -> Path:
-    return Path(f'{os.fsdecode(save)}.slot')
+def slot_of(save: object, number: int = 0) -> Path:
+    """The file of a slot, from 1 on; without a number SAVE.slot, which is the first one where that has no file of its own."""
+    plain = f'{os.fsdecode(save)}.slot'
+    is_plain = number == 0 or number == 1 and os.path.lexists(plain) and not os.path.lexists(f'{plain}1')
+    return Path(plain if is_plain else f'{plain}{number}')
 
 
 def short(path: object) -> str:
@@ -131,11 +135,11 @@ def name_it(made: str, name: str) -> None:
 
 
 class Slots:
-    """The slot of a game, and the copies of games that were replaced."""
+    """A slot of a game, and the copies of games that were replaced."""
 
-    def __init__(self, cart: object, save: object, program: object, has_clock: bool):
+    def __init__(self, cart: object, save: object, program: object, has_clock: bool, number: int = 0):
         self.cart, self.save, self.program, self.has_clock = os.fsdecode(cart), os.fsdecode(save), str(program), has_clock
-        self.slot = str(slot_of(save))
+        self.slot = str(slot_of(save, number))
 
     def keep(self) -> Optional[str]:
         """Copies SAVE to its slot: the program has it open, and has nothing unsaved. Answers the name of the copy of the slot before, if one was

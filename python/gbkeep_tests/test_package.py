@@ -180,9 +180,9 @@ def test_missing(folder):
         expect('a PNG without packages', ran([*bare, 'gbkeep.png', folder / 'picture.pgm', folder / name], PYTHONPATH=str(SOURCES)), (0, '', ''))
     expect('the same bytes', (folder / 'made.png').read_bytes() == (folder / 'again.png').read_bytes() == gbkeep.Picture(PGM).png(), True)
     status, out, err = ran([*bare, 'gbkeep.window', 'game.gb'], PYTHONPATH=str(SOURCES))
-    expect('no pygame', (status, out, 'python3-pygame' in err, err.count('\n')), (1, '', True, 1))
+    expect('no GTK', (status, out, 'python3-gi' in err, err.count('\n')), (1, '', True, 1))
     status, out, err = ran([*bare, 'gbkeep.window', '--help'], PYTHONPATH=str(SOURCES))
-    expect('help without pygame', (status, 'usage: gbkeep-window' in out, err), (0, True, ''))
+    expect('help without GTK', (status, 'usage: gbkeep-window' in out, err), (0, True, ''))
     says = f'import gbkeep; print(len(gbkeep.Picture({PICTURE_HEAD!r} + b"3 " * 23040).png()) > 0)'
     expect('a picture without packages', ran([sys.executable, '-S', '-B', '-c', says], PYTHONPATH=str(SOURCES)), (0, 'True\n', ''))
     status, out, err = ran([sys.executable, '-B', '-c', 'import gbkeep; gbkeep.Machine(b"")'], PYTHONPATH=str(SOURCES), GBKEEP_LIBRARY=str(folder / 'none.so'))

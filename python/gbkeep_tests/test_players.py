@@ -27,7 +27,8 @@ from gbkeep.pictures import png_of
 from gbkeep.rest import rest_of
 from gbkeep.script import Wrong, friendly_line, friendly_move, friendly_moves, inputs_of, own_lines, own_moves
 from gbkeep.verify import pieces_of, tell
-from gbkeep.window_files import Files
+from gbkeep.desktop.files import Files
+from gbkeep.desktop.preferences import Preferences
 
 
 def refusal(call):
@@ -51,19 +52,27 @@ with Game({cart!r}, {save!r}, {program!r}) as game:
     taken = os.open({save!r}, os.O_RDWR)
     assert taken > 2, taken
 '''
-# the same by the window, over a stand-in for pygame: a picture after another, until it is closed
+# the same by a play of the window, whose face writes to the streams: a picture after another, until it is closed
 SHOWS = '''
-import os, sys, types
-from gbkeep_tests import test_window_parts as parts
-shown = parts.pygame.display.flip
-def flip():
-    shown()
-    for stream in (1, 2):
-        os.write(stream, b'a line of the display\\n')
-parts.pygame.display.flip = flip
-parts.EVENTS += [types.SimpleNamespace(type=kind) for kind in [0] * 30 + [parts.pygame.QUIT]]
-sys.argv = ['gbkeep-window', '--gbkeep', {program!r}, {cart!r}, {save!r}]
-parts.module.start()
+import os
+from gbkeep.desktop.playing import Asked, Play
+from gbkeep.desktop.preferences import Preferences
+from gbkeep.desktop.shelf import Shelf
+from gbkeep.desktop.steering import Steering
+class Face:
+    shown = 0
+    def show(self, shades):
+        self.shown += 1
+        for stream in (1, 2):
+            os.write(stream, b'a line of the display\\n')
+        if self.shown == 40:
+            steering.close()
+    def ended(self, told):
+        assert told is None, told
+    def __getattr__(self, name):
+        return lambda *words: None
+steering = Steering()
+Play(Asked({cart!r}, {save!r}), Face(), Preferences(), steering, Shelf(), {program!r}).run()
 '''
 # what the process has open that starts it
 NOTES = '''#!/bin/sh
@@ -139,7 +148,7 @@ def test_closed_streams(room):
     program = str(room.write('program', NOTES.format(notes=shlex.quote(str(notes)), program=shlex.quote(room.program)), 0o755))
     room.write('moves.txt', 'A 30\n')
     begin(CART, save, room.program)
-    recording, env = room.path('run.rec'), dict(os.environ, GBKEEP=program, XDG_CONFIG_HOME=str(room.path('config')))
+    recording, env = room.path('run.rec'), dict(os.environ, GBKEEP=program, **{f'XDG_{name}_HOME': str(room.path('own')) for name in ('CONFIG', 'DATA', 'CACHE')})
     with Game(CART, room.path('run.gbkeep'), room.program, recording) as game:
         game.frames(A, 30)
     named = {name: str(room.path(name)) for name in ('moves.txt', 'made.y4m', 'made.bk2', 'new.gbkeep', 'new.rec', 'made')}
@@ -617,21 +626,22 @@ def ended_branches(room, recording):
 def test_a_branch_of_the_window(room):
     """A recorded game that is rewound in the window: a new game with a recording of its own goes on, and the game before stays; its clock goes on from there."""
     said, asked = [], []
-    window = types.SimpleNamespace(say=lambda line, seconds=0: said.append(line), show=lambda shades=None: None, ask=asked.append, tell=lambda line: None)
+    window = types.SimpleNamespace(say=lambda line, seconds=0: said.append(line), show=lambda shades=None: None, ask=asked.append, tell=lambda told: None)
+    chosen = Preferences()
     cart = clock_cart(room.folder)
     files = Files(str(cart), str(room.path('run.gbkeep')), str(room.path('run.rec')), room.program)
     with contextlib.closing(Game(cart, files.save, room.program, files.recording)) as game:
         game.frames(RIGHT, 3300)
     room.write('run-2.rec.time', '')
-    game = files.open(window)
+    game = files.open(window, chosen)
     count, given_until = game.count, int(time.time()) - 600
-    game = files.branch(window, game, 3201, given_until)
+    game = files.branch(window, game, chosen, 3201, given_until)
     expect('what is played', (os.path.basename(files.save), os.path.basename(files.recording)), ('run-3.gbkeep', 'run-3.rec'))
-    expect('what is said', said, ['a branch is begun', 'a branch: run-3.gbkeep, recorded in run-3.rec'])
+    expect('what is said', said, ['A branch is being made.', 'A branch: run-3.gbkeep, recorded in run-3.rec.'])
     game.frame(A)
     game.save_all()
-    game = files.branch(window, game, 9_999, given_until)
-    expect('no branch beyond the inputs', said[-1].startswith('no branch: RECORDING has '), True)
+    game = files.branch(window, game, chosen, 9_999, given_until)
+    expect('no branch beyond the inputs', said[-1].startswith('There is no branch: RECORDING has '), True)
     expect('and nothing is made', list(room.folder.glob('run-3-*')), [])
     game.save_all()
     game.close()

@@ -23,8 +23,10 @@ from gbkeep.input_files import WrongInput
 from gbkeep.new_files import Unsafe, new_file
 from gbkeep.slots import NotReplaced, Slots
 from gbkeep.timed_game import INPUTS_BETWEEN, YEAR, SaveTime, TimedGame, WrongTime, given_until, lines_of, merged, span
-from gbkeep.window_files import (back_to_slot, battery_name, keep_in_slot, keep_palette, kept_palette, lasting_name, leave_picture, own_save, recording_of,
-                          take_battery, with_recording)
+from gbkeep.desktop.files import (battery_name, keep_state, lasting_name, leave_picture, load_state, put_aside, recording_of, take_battery, take_out,
+                                  with_recording)
+from gbkeep.desktop.preferences import Preferences
+from gbkeep.desktop.shelf import own_save
 
 
 
@@ -80,8 +82,8 @@ class Room(support.Room):
             meanwhile()
             return slots.go_back(left)
 
-    def slots(self, save, has_clock=False):
-        return Slots(self.clock_cart if has_clock else CART, save, self.program, has_clock)
+    def slots(self, save, has_clock=False, number=0):
+        return Slots(self.clock_cart if has_clock else CART, save, self.program, has_clock, number)
 
     def games(self, save, cart=CART):
         """The states of all files of a game."""
@@ -287,7 +289,6 @@ def test_files_of_other_users(room):
             game.frames(A, 5)
             game.save_all()
             slots.keep()
-            leave_picture(Window(), game, str(save))
             left, trouble = slots.left(), game.notice or game.trouble
             game.frames(A, 5)
             game.save_all()
@@ -816,23 +817,21 @@ def test_new_names(room):
 
 
 def test_killed_pictures(room):
-    """A picture that is killed at any point leaves none that is empty."""
-    save = str(room.game('seen.gbkeep', 1))
-    with Game(CART, save, room.program) as game:
-        shades = game.picture()
-        still, point, is_killed = types.SimpleNamespace(picture=lambda: shades), 0, True
-        while is_killed:
-            is_killed = killed_at(point, ('open', 'fsync', 'replace', 'link', 'unlink', 'close'), lambda: leave_picture(Window(), still, save))
-            expect(f'killed at {point}', {path.stat().st_size > 0 for path in room.folder.glob('seen.gbkeep-*.png')} <= {True}, True)
-            point += 1
+    """A screenshot that is killed at any point leaves none that is empty."""
+    chosen, shades = Preferences(pictures=str(room.path('shots'))), bytes(160 * 144)
+    point, is_killed = 0, True
+    while is_killed:
+        is_killed = killed_at(point, ('open', 'fsync', 'replace', 'link', 'unlink', 'close'), lambda: leave_picture(Window(), shades, 'seen', chosen))
+        expect(f'killed at {point}', {path.stat().st_size > 0 for path in room.path('shots').glob('seen*.png')} <= {True}, True)
+        point += 1
     expect('points', point > 6, True)
     # one that an earlier kill has left is taken up
-    for path in room.folder.glob('seen.gbkeep-*.png'):
+    for path in room.path('shots').glob('seen*.png'):
         path.unlink()
-    room.write('seen.gbkeep-1.png', '')
+    room.write('shots/seen 1.png', '')
     window = Window()
-    leave_picture(window, still, save)
-    expect('an empty one', (window.said, room.path('seen.gbkeep-1.png').read_bytes()[:4]), (['picture: seen.gbkeep-1.png'], b'\x89PNG'))
+    leave_picture(window, shades, 'seen', chosen)
+    expect('an empty one', (window.said, room.path('shots/seen 1.png').read_bytes()[:4]), (['Screenshot: seen 1.png'], b'\x89PNG'))
 
 
 # ---- the window's files
@@ -844,11 +843,11 @@ class Window:
     def __init__(self, agrees=False):
         self.agrees, self.said, self.asked = agrees, [], []
 
-    def say(self, line, seconds=2):
+    def say(self, line, seconds=2, file=None):
         self.said.append(line)
 
-    def ask(self, *texts):
-        self.asked.append(' '.join(texts))
+    def ask(self, question):
+        self.asked.append(f'{question.head} {question.body}')
         return self.agrees
 
 
@@ -871,23 +870,14 @@ def test_names(room):
     made = subprocess.run(['make', '-s', '-o', 'bin/gbkeep', 'play', 'PYTHON=echo', f'CART={room.path("a game.gb")}'], cwd=TOP, env=quiet,
                           capture_output=True, text=True)
     expect('make play', (made.stdout, made.stderr), (f'-B -m gbkeep.window {room.path("a game.gb")}\n', ''))
-    # the palette of the last time
-    palette = room.path('config/gbkeep/palette')
-    expect('none yet', kept_palette(), None)
-    keep_palette(3)
-    expect('kept', (kept_palette(), palette.read_text()), (3, '4\n'))
-    for content in (b'mine', b'5\n', b'9' * 5000, b'\xff', bytes(99)):
-        palette.write_bytes(content)
-        keep_palette(1)
-        expect('a file of somebody else', (kept_palette(), palette.read_bytes()), (None, content))
-    # pictures take names that are free
+    # screenshots take names that are free
     game = Game(CART, room.path('seen.gbkeep'), room.program)
-    victim, window = room.path('victim'), Window()
-    os.symlink(victim, room.path('seen.gbkeep-1.png'))
-    room.write('seen.gbkeep-2.png', 'mine')
-    leave_picture(window, game, str(room.path('seen.gbkeep')))
-    expect('a picture', (window.said, victim.exists(), room.path('seen.gbkeep-2.png').read_text(), room.path('seen.gbkeep-3.png').read_bytes()[:4]),
-           (['picture: seen.gbkeep-3.png'], False, 'mine', b'\x89PNG'))
+    victim, window, chosen = room.path('victim'), Window(), Preferences(pictures=str(room.folder))
+    os.symlink(victim, room.path('seen 1.png'))
+    room.write('seen 2.png', 'mine')
+    leave_picture(window, game.picture().shades, 'seen', chosen)
+    expect('a picture', (window.said, victim.exists(), room.path('seen 2.png').read_text(), room.path('seen 3.png').read_bytes()[:4]),
+           (['Screenshot: seen 3.png'], False, 'mine', b'\x89PNG'))
     # the end of a login is for the window: its program goes on until it is told the last inputs
     for number in (signal.SIGTERM, signal.SIGHUP, signal.SIGINT):
         os.kill(game.process.pid, number)
@@ -905,34 +895,73 @@ def refusal_told(call):
     return ''
 
 
-def test_said_of_slots(room):
-    """What the window says as it keeps a game and goes back."""
-    save, window = room.path('said.gbkeep'), Window()
-    slots = room.slots(save)
+def test_said_of_states(room):
+    """What the window says as it saves a state and loads one; the picture lies beside it."""
+    save, window, chosen = room.path('said.gbkeep'), Window(), Preferences()
+    slots, shades = room.slots(save), bytes(160 * 144)
 
-    files = types.SimpleNamespace(slots=slots, open=lambda window: TimedGame(CART, save, room.program))
-    game = files.open(window)
-    keep_in_slot(window, game, slots)
+    files = types.SimpleNamespace(slots=lambda number: room.slots(save, number=number), open=lambda window, chosen: TimedGame(CART, save, room.program), save=str(save))
+    game = files.open(window, chosen)
+    keep_state(window, game, files, 3, shades)
     game.frames(A, 7)
-    game = back_to_slot(window, game, files)
-    expect('said', (window.said, game.count), (['kept in the slot: 0 inputs', 'back to the slot: 0 inputs; the game before is said.gbkeep.before'], 0))
+    game = load_state(window, game, files, chosen, 3)
+    expect('said', (window.said, game.count), (['State 3 saved.', 'State 3 loaded. The game before is said.gbkeep.before.'], 0))
+    expect('its files', room.there('said.gbkeep.slot'), ['said.gbkeep.slot3', 'said.gbkeep.slot3.png'])
     game.frames(A, 9)
-    Path(slots.slot).write_bytes(bytes(1000))
-    game = back_to_slot(window, game, files)
-    keep_in_slot(window, game, slots)
-    expect('not', (window.said[2:], game.count), (['not back: said.gbkeep.slot: device size 1000: 9 inputs',
-                                                   'not kept: said.gbkeep.slot exists already and is another kind of file: take it away'], 9))
+    Path(f'{slots.slot}3').write_bytes(bytes(1000))
+    game = load_state(window, game, files, chosen, 3)
+    keep_state(window, game, files, 3, shades)
+    expect('not', (window.said[2:], game.count), (['State 3 was not loaded: said.gbkeep.slot3: device size 1000',
+                                                   'State 3 was not saved: said.gbkeep.slot3 exists already and is another kind of file: take it away'], 9))
+    expect('an empty one', (load_state(window, game, files, chosen, 4) is game, window.said[-1]), (True, 'State 4 is empty.'))
     game.close()
-    # a recorded game does not go back, and that is said when it is kept
+    # a recorded game does not go back, and that is said when it is saved
     save, recording = room.path('run.gbkeep'), room.path('run.rec')
-    slots, window = room.slots(save), Window()
+    window = Window()
     with TimedGame(CART, save, room.program, recording=recording) as game:
         game.frames(A, 7)
-        keep_in_slot(window, game, slots)
-        expect('the same game', back_to_slot(window, game, files) is game, True)
-    expect('said', window.said, ['copied to run.gbkeep.slot, a game of its own: a recorded game does not go back', 'a recorded game does not go back'])
+        keep_state(window, game, files := types.SimpleNamespace(slots=lambda number: room.slots(save, number=number), save=str(save)), 1, shades)
+        expect('the same game', load_state(window, game, files, chosen, 1) is game, True)
+    recorded = 'A recorded game only goes forward. Rewind and the timeline begin a branch of it.'
+    expect('said', window.said, [f'Copied to run.gbkeep.slot1, a game of its own. {recorded}', recorded])
     plain, none = room.game('plain.gbkeep', 1), room.path('none.rec')
     expect('no recording', 'is not there' in refusal(lambda: TimedGame(CART, plain, room.program, recording=none)), True)
+
+
+def test_ten_states(room):
+    """Each of the ten has a file of its own; a SAVE.slot is the first, until that has one."""
+    save = room.game('ten.gbkeep', 5)
+    for number in range(1, 11):
+        with Game(CART, save, room.program) as game:
+            game.frames(A, 1)
+            game.save()
+            room.slots(save, number=number).keep()
+    expect('their inputs', [room.inputs(room.path(f'ten.gbkeep.slot{number}')) for number in range(1, 11)], list(range(6, 16)))
+    older = room.game('older.gbkeep', 5)
+    room.keeps(older, 1)
+    expect('a slot of before', Path(room.slots(older, number=1).slot).name, 'older.gbkeep.slot')
+    room.game('older.gbkeep.slot1', 9)
+    expect('one of its own', Path(room.slots(older, number=1).slot).name, 'older.gbkeep.slot1')
+
+
+def test_put_aside_and_taken_out(room):
+    """A game that is begun anew is kept; a copy and a battery file of it take no game's place."""
+    save = room.game('aside.gbkeep', 20)
+    state = room.state(save)
+    with Game(CART, save, room.program):
+        expect('one that is open', 'is in use' in refusal(lambda: put_aside(str(CART), str(save), room.program)), True)
+    copy, target = room.path('copy.gbkeep'), room.path('other.gbkeep')
+    with Game(CART, save, room.program) as game:
+        game.save()
+        take_out(str(CART), str(save), str(copy), False, room.program)
+        room.game(target, 3)
+        for path in (target, save):
+            expect(f'{path.name} stays', bool(support.refusal(lambda: take_out(str(CART), str(save), str(path), False, room.program), Unsafe)), True)
+        clock = room.game('clock.gbkeep', 3, room.clock_cart)
+        take_out(str(room.clock_cart), str(clock), str(room.path('clock.sav')), True, room.program)
+    expect('a copy', (room.state(copy), room.inputs(target), room.path('clock.sav').stat().st_size > 8191), (state, 3, True))
+    expect('kept', (put_aside(str(CART), str(save), room.program), save.exists(), room.state(room.path('aside.gbkeep.before'))), (f'{save}.before', False, state))
+    expect('nothing to keep', put_aside(str(CART), str(save), room.program), None)
 
 
 def test_recorded(room):

@@ -7,12 +7,14 @@ usage: test_slow_disk.py GBKEEP [core|window]
 It needs a C compiler; for the core, bin/gbkeep_libretro.so; for the window what test_window.py needs. The status is 1 where something comes late or early."""
 import json
 import os
+import re
 import subprocess
 import sys
 import tempfile
 import time
 from pathlib import Path
 
+from gbkeep_tests import window_driver
 from gbkeep_tests.support import CART, TOP, clock_cart, expect
 
 CORE = TOP / 'bin/gbkeep_libretro.so'
@@ -112,34 +114,34 @@ def with_core(program, room):
 
 
 def with_window(program, room):
-    from gbkeep_tests import test_window
-    test_window.needs()
-    screen = test_window.Screen(str(room))
+    from gbkeep.desktop.preferences import HEAD
+    screen = window_driver.Screen(room)
     clock = clock_cart(room)
+    chosen = room / 'config/gbkeep/window'
+    chosen.parent.mkdir(parents=True)
+    chosen.write_bytes(HEAD + json.dumps({'shows_counter': True}).encode())
     try:
         for cart in (CART, clock):
             env, log = slowed(room)
             normal, screen.env = screen.env, dict(screen.env, **{name: env[name] for name in ('LD_PRELOAD', 'SLOW_LOG')})
-            player = test_window.Player(screen, program, room / f'window-{cart.stem}.gbkeep', cart)
+            player = window_driver.Player(screen, program, cart, room / f'window-{cart.stem}.gbkeep')
             screen.env = normal
-            player.screen = screen
-            player.until_saved(1)
+            player.until('^saved')
             time.sleep(3)
-            speeds, saves, until = [], [], time.monotonic() + SECONDS
-            while time.monotonic() < until:
-                speeds.append(player.speed())
-                count = player.saved()
-                if not saves or count != saves[-1][1]:
-                    saves.append((time.monotonic(), count))
+            begun, first, rates, unsaved, syncs = time.monotonic(), player.frame_count(), [], [], len(log.read_text().splitlines())
+            while time.monotonic() < begun + SECONDS:
+                said = ' '.join(player.texts())
+                rates += [int(rate) for rate in re.findall(r'(\d+)%, frame', said)]
+                unsaved += [int(seconds) for seconds in re.findall(r'saved (?:for )?(\d+) s', said)]
                 time.sleep(0.1)
-            mean = sum(speeds) / len(speeds)
-            print(f'window, {cart.stem}: {mean:.1f} % of a Game Boy\'s speed, {min(speeds)} to {max(speeds)} in a second; {len(saves) - 1} saves seen in {SECONDS} s', flush=True)
-            expect('the pace', (abs(mean - 100) <= 1, min(speeds) >= 94), (True, True))
-            expect('saves', len(saves) - 1 >= (SECONDS - 2) // (2 if cart == CART else 4), True)
+            mean = (player.frame_count() - first) / (time.monotonic() - begun)
+            print(f'window, {cart.stem}: {mean:.1f} frames a second, {min(rates)} to {max(rates)} % in a second; at most {max(unsaved, default=0)} s were unsaved', flush=True)
+            expect('the pace', (abs(mean - FRAMES_A_SECOND) < 1, min(rates) >= 94), (True, True))
+            expect('saves', (max(unsaved, default=0) <= 4, len(log.read_text().splitlines()) - syncs >= (SECONDS - 2) // 2), (True, True))
             player.process.terminate()
-            expect('the end', player.process.wait(60), 0)
+            player.ended(0)
     finally:
-        screen.process.kill()
+        screen.end()
 
 
 def main():
@@ -149,6 +151,8 @@ def main():
     if not 1 <= len(words) <= 2:
         sys.exit(__doc__)
     program = os.path.abspath(words[0])
+    if words[1:] in ([], ['window']):
+        window_driver.needs()
     with tempfile.TemporaryDirectory(prefix='slow-') as folder:
         for name, test in (('core', with_core), ('window', with_window)):
             if words[1:] in ([], [name]):

@@ -1,653 +1,633 @@
-"""Plays the demo cartridge in the window with real key events, on a display of its own, and kills it in the middle of play. Then it looks at
-what the window shows: a pause, a saved picture, running fast, a fault, a notice about the clock, a slot, the keys, another palette, full screen; goes
-back by each key that does; and ends it by Ctrl-C and by a SIGTERM. It gives it names and files that no window can use, a recorded game, and a battery file.
+"""Plays in the window on a display of its own, by keys and by its accessibility tree: begins games, kills it in play, saves and loads states, goes back, answers
+its questions, changes its keys, and gives it names and files that no window can use.
 
-usage: test_window.py [GBKEEP [TEST..] [PICTURE.png]]    PICTURE: where a picture of the whole window goes
+usage: test_window.py [GBKEEP [TEST..]]
+       test_window.py --pictures FOLDER [GBKEEP]     leaves pictures of each state and size, in light and dark: somebody has to look at them
 
-It needs Debian's packages xvfb, xdotool and python3-pygame, and installs nothing. The status is 1 where the window does not show the game, where
-what its title told as saved is gone after a SIGKILL, where the score of a second before is, or where any of the others is not shown."""
-import hashlib
+It needs Debian's packages xvfb, xdotool, openbox, dbus-daemon, at-spi2-core, imagemagick, python3-gi, gir1.2-gtk-4.0, gir1.2-adw-1 and gir1.2-atspi-2.0, and
+installs nothing. The status is 1 where a test fails."""
+import json
 import os
 import re
-import select
 import shutil
 import signal
-import struct
 import subprocess
 import sys
 import tempfile
 import time
-import zlib
 from pathlib import Path
 
-from examples.demo.check import glyphs, status_line
-from gbkeep.game import HEIGHT, WIDTH, Game, run
-from gbkeep.pictures import PNG_HEAD, chunk
+from gbkeep.desktop.preferences import HEAD
+from gbkeep.game import A, Game, run
+from gbkeep.pictures import shades_of
 from gbkeep_tests import support
-from gbkeep_tests.support import DAY, DEMO, TOP, clock_cart, seconds_shown, tool_words, written_png, wrong
+from gbkeep_tests.support import DAY, TOP, clock_cart, expect, seconds_shown, tool_words
+from gbkeep_tests.window_driver import DEMO, Player, Screen, needs
 
-SCALE = 3
-# where a picture of the whole window goes
-PICTURE = None
-# those of gbkeep.window, darkest first; the letters that it draws have others between them
-COLOURS = [(0x0f, 0x38, 0x0f), (0x30, 0x62, 0x30), (0x8b, 0xac, 0x0f), (0xe0, 0xf8, 0xd0)]
-
-
-def needs():
-    missing = [package for program, package in (('Xvfb', 'xvfb'), ('xdotool', 'xdotool')) if not shutil.which(program)]
-    if subprocess.run([sys.executable, '-c', 'import pygame'], capture_output=True).returncode != 0:
-        missing.append('python3-pygame (for %s)' % sys.executable)
-    if missing:
-        sys.exit("test_window.py needs Debian's " + ', '.join(missing))
+CART = DEMO / 'demo.gb'
+KILLS = 20
+NAME = 'GBKEEP DEMO'
 
 
-def as_pgm(shades):
-    return ' '.join(['P2', '160', '144', '3', *map(str, shades)])
+class Room:
+    """A display, a folder and the windows that are opened there, for one test."""
+
+    def __init__(self, screen, gbkeep, folder):
+        self.screen, self.gbkeep, self.folder = screen, str(gbkeep), Path(folder)
+        self.players = []
+        self.screen.env.update({f'XDG_{name}_HOME': str(self.folder / name.lower()) for name in ('CONFIG', 'DATA', 'CACHE')}, HOME=str(self.folder))
+
+    def path(self, name):
+        return self.folder / name
+
+    def open(self, *words, **how):
+        self.players.append(Player(self.screen, self.gbkeep, *words, **how))
+        return self.players[-1]
+
+    def prefers(self, **chosen):
+        path = self.folder / 'config/gbkeep/window'
+        path.parent.mkdir(parents=True, exist_ok=True)
+        path.write_bytes(HEAD + json.dumps(chosen).encode())
+
+    def inputs(self, save, cart=CART):
+        """The count of inputs of a SAVE that nobody plays."""
+        return int(run(self.gbkeep, 'show', str(cart), str(save)).split()[1])
+
+    def shot(self, player):
+        """The picture of a screenshot, and its file."""
+        folder = self.folder / 'Pictures'
+        before = set(folder.glob('*.png'))
+        player.keys('key', 's')
+        made = player.wait(lambda: set(folder.glob('*.png')) - before, 'S left no screenshot').pop()
+        return shades_of(made.read_bytes())
+
+    def end(self):
+        for player in self.players:
+            if player.process.poll() is None:
+                player.kill()
 
 
-def shades_of(png):
-    """The shades of a PNG that the window leaves."""
-    raw = written_png(png)[3]
-    return [raw[(y * WIDTH * SCALE + x) * SCALE] // 85 for y in range(HEIGHT) for x in range(WIDTH)]
+def begun(player):
+    """Waits until a game is played."""
+    player.until('^saved')
+    return player
 
 
-class Screen:
-    """A display of its own, whose pixels can be read."""
-
-    def __init__(self, room):
-        self.pixels = Path(room) / 'Xvfb_screen0'
-        reader, writer = os.pipe()
-        self.process = subprocess.Popen(['Xvfb', '-displayfd', str(writer), '-screen', '0', '800x600x24', '-fbdir', room, '-nolisten', 'tcp', '-noreset'],
-                                        pass_fds=[writer], stdout=subprocess.DEVNULL, stderr=subprocess.DEVNULL)
-        os.close(writer)
-        if not select.select([reader], [], [], 20)[0]:
-            sys.exit('Xvfb shows no display')
-        self.env = dict(os.environ, DISPLAY=':' + os.read(reader, 20).decode().strip(), SDL_AUDIODRIVER='dummy',
-                        XDG_CONFIG_HOME=f'{room}/config', XDG_DATA_HOME=f'{room}/data')
-
-    def do(self, *words):
-        return subprocess.run(['xdotool', *words], env=self.env, capture_output=True, text=True).stdout
-
-    def keys(self, kind, *names):
-        for name in names:
-            self.do(kind, name)
-
-    def shot(self, left, top, width, height):
-        """The rows of a part of the screen, as lists of colours. (The file is an X window dump: a head of big words, and four bytes a pixel.)"""
-        data = self.pixels.read_bytes()
-        head = struct.unpack('>25I', data[:100])
-        start, line = head[0] + 12 * head[19], head[12]
-        return [[tuple(data[at:at + 3][::-1]) for at in range(start + y * line + 4 * left, start + y * line + 4 * (left + width), 4)]
-                for y in range(top, top + height)]
+def paused(player):
+    player.keys('key', 'p')
+    player.until('^Paused: P goes on$')
 
 
-class Player:
-    """A window that is open."""
-
-    def __init__(self, screen, gbkeep, save, cart=DEMO / 'demo.gb', *more, closed=''):
-        self.screen, self.save = screen, save
-        redirected = ['sh', '-c', f'exec "$@" {closed}', 'sh'] if closed else []
-        self.process = subprocess.Popen([*redirected, *tool_words('window'), '--gbkeep', gbkeep, *more, cart, *([save] if save else [])], env=screen.env,
-                                        start_new_session=True, stdout=subprocess.PIPE, stderr=subprocess.STDOUT, text=True)
-        self.window = None
-        self.find()
-
-    def find(self):
-        """Takes the window that there is."""
-        self.window = self.wait(lambda: self.screen.do('search', '--class', 'gbkeep').split(), 'no window came up')[0]
-        self.screen.do('windowfocus', self.window)
-
-    def wait(self, what, or_else, seconds=20):
-        until = time.monotonic() + seconds
-        while time.monotonic() < until:
-            got = what()
-            if got:
-                return got
-            if self.process.poll() is not None:
-                wrong(f'{or_else}: {self.process.stdout.read()}')
-            time.sleep(0.05)
-        wrong(f'{or_else}; the title is {self.title()!r}')
-
-    def title(self):
-        return '' if self.window is None else self.screen.do('getwindowname', self.window).strip()
-
-    def until_titled(self, words):
-        self.wait(lambda: words in self.title(), f'the title never had {words!r}')
-
-    def saved(self):
-        found = re.search(r', (\d+) saved', self.title())
-        return int(found[1]) if found else 0
-
-    def speed(self):
-        """Of a hundred: 100 is as fast as a Game Boy."""
-        found = re.search(r': (\d+)%, ', self.title())
-        return int(found[1]) if found else 0
-
-    def until_saved(self, count):
-        return self.wait(lambda: self.saved() >= count and self.saved(), f'{count} inputs were never saved')
-
-    def pixels(self, is_whole=False):
-        """Those of the picture, or of the whole window."""
-        place = dict(line.split('=') for line in self.screen.do('getwindowgeometry', '--shell', self.window).split())
-        return self.screen.shot(int(place['X']), int(place['Y']), WIDTH * SCALE, int(place['HEIGHT']) if is_whole else HEIGHT * SCALE)
-
-    def has_words(self):
-        """Something is written over the picture, in its place, or below it. (Before the first picture the window is black.)"""
-        rows = self.pixels(is_whole=True)
-        colours, below = ({colour for row in part for colour in row} for part in (rows[:HEIGHT * SCALE], rows[HEIGHT * SCALE:]))
-        return COLOURS[3] in below or COLOURS[3] in colours and not colours <= set(COLOURS)
-
-    def covers(self):
-        """Something is written over the picture."""
-        return not {colour for row in self.pixels() for colour in row} <= set(COLOURS)
-
-    def until_words(self, there, what):
-        self.wait(lambda: self.has_words() == there, f'{what}: {"nothing is" if there else "something is still"} written in the window')
-
-    def shades(self):
-        """The picture in the window."""
-        rows = self.pixels()
-        return [COLOURS.index(rows[y * SCALE][x * SCALE]) for y in range(HEIGHT) for x in range(WIDTH)]
-
-    def picture(self):
-        """The picture that the key S leaves."""
-        before = set(self.save.parent.glob('*.png'))
-        self.screen.keys('key', 's')
-        made = self.wait(lambda: set(self.save.parent.glob('*.png')) - before, 'S left no picture').pop()
-        time.sleep(0.1)
-        return shades_of(made)
-
-    def score(self, known):
-        found = re.match(r'SCORE (\d\d)', status_line(as_pgm(self.picture()), known))
-        return int(found[1]) if found else wrong('the window shows no score')
-
-    def processor_seconds(self):
-        """Of the window and the program that it started."""
-        group, ticks = os.getpgid(self.process.pid), 0
-        for stat in Path('/proc').glob('[0-9]*/stat'):
-            try:
-                fields = stat.read_text().rpartition(')')[2].split()
-            except OSError:
-                continue
-            if int(fields[2]) == group:
-                ticks += int(fields[11]) + int(fields[12])
-        return ticks / os.sysconf('SC_CLK_TCK')
-
-    def kill(self):
-        os.killpg(self.process.pid, signal.SIGKILL)
-        self.process.wait()
-
-    def close(self):
-        """Ends it as a session does that ends: it saves, and says nothing."""
-        self.process.terminate()
-        self.ended(0, '')
-
-    def ended(self, status, output):
-        """It ends so, and prints nothing or one line that begins with that."""
-        printed = self.process.communicate(timeout=20)[0]
-        if self.process.returncode != status or not printed.startswith(output) or printed.count('\n') != bool(output):
-            wrong(f'the window ended with status {self.process.returncode} and {printed!r}, and not {status} and {output!r}')
+def goes_on(player):
+    player.keys('key', 'p')
+    player.until('^saved')
 
 
-def sweep(screen, rows):
-    """Walks over the field, up, and then row by row down."""
-    screen.keys('keydown', 'Up')
-    time.sleep(0.8)
-    screen.keys('keyup', 'Up')
-    for row in range(rows):
-        way = ('Right', 'Left')[row % 2]
-        screen.keys('keydown', way)
-        time.sleep(1.3)
-        screen.keys('keyup', way)
-        screen.keys('keydown', 'Down')
-        time.sleep(0.1)
-        screen.keys('keyup', 'Down')
+# ---- play, and its end
+
+def test_play_and_kill(room):
+    """A game by real keys; whatever kills it, it goes on from where it was, and says so."""
+    save = room.path('demo.gbkeep')
+    room.prefers(shows_counter=True)
+    player = begun(room.open(CART, save))
+    started = time.monotonic() - player.began
+    player.hold('Return', 0.2)
+    time.sleep(1)
+    frames, spent, since = player.frame_count(), player.processor_seconds(), time.monotonic()
+    for way in ('Up', 'Right', 'Down', 'Left', 'Down', 'Right', 'Up'):
+        player.hold(way, 1.2)
+    passed = time.monotonic() - since
+    rate, load = (player.frame_count() - frames) / passed, (player.processor_seconds() - spent) / passed
+    print(f'begun in {started:.1f} s; {rate:.1f} frames a second, {100 * load:.0f} % of a processor', flush=True)
+    # the one who is played stands at the right wall, and then at the left one
+    seen = []
+    for way in ('Right', 'Left'):
+        player.hold(way, 1.5)
+        shades = room.shot(player)
+        seen.append([shades[160 * y + x] for y in range(8, 128) for x in range(140, 152)])
+    expect('keys reach the game', seen[0] != seen[1], True)
+    told, lost = 0, []
+    for number in range(KILLS):
+        time.sleep(0.3 + number % 7 / 5)
+        player.kill()
+        count = room.inputs(save)
+        expect(f'kill {number}: what was saved is there', count >= told, True)
+        player = room.open(CART, save)
+        welcome = player.until('^Welcome back: the game goes on from ')
+        lost.append(float((re.search(r'([\d.]+) s before', welcome) or [0, '0'])[1]))
+        begun(player)
+        told = count
+    expect('no more than a second and a half is lost', max(lost) < 1.6, True)
+    print(f'killed {KILLS} times, {max(lost)} s lost at most', flush=True)
+    player.close()
+    player = begun(room.open(CART, save))
+    expect('after an end nothing is welcomed', any('Welcome' in text for text in player.texts()), False)
+    player.close()
 
 
-def leave_picture(player, path):
-    rows = b''.join(b'\0' + bytes(part for colour in row for part in colour) for row in player.pixels())
-    head = struct.pack('>IIBBBBB', WIDTH * SCALE, HEIGHT * SCALE, 8, 2, 0, 0, 0)
-    Path(path).write_bytes(PNG_HEAD + chunk(b'IHDR', head) + chunk(b'IDAT', zlib.compress(rows, 9)) + chunk(b'IEND', b''))
+def test_ends(room):
+    """Ctrl-C and the end of a login save and end with status 0; a window without a display says so; streams may be closed."""
+    save = room.path('ends.gbkeep')
+    for number in (signal.SIGINT, signal.SIGTERM, signal.SIGHUP):
+        before = room.inputs(save) if save.exists() else 0
+        player = begun(room.open(CART, save))
+        time.sleep(1)
+        os.killpg(player.process.pid, number)
+        player.ended(0)
+        expect(f'signal {number}: it goes on', room.inputs(save) > before, True)
+    player = begun(room.open(CART, save))
+    player.act('window.close')
+    player.ended(0)
+    player = room.open(CART, save, closed='>&- 2>&- <&-')
+    begun(player)
+    expect('the numbers of the streams', {os.readlink(f'/proc/{player.process.pid}/fd/{one}') for one in range(3)}, {'/dev/null'})
+    player.close()
+    env = {name: value for name, value in room.screen.env.items() if name not in ('DISPLAY', 'WAYLAND_DISPLAY')}
+    done = subprocess.run([*tool_words('window'), '--gbkeep', room.gbkeep, CART], env=env, capture_output=True, text=True, timeout=60)
+    expect('no display', (done.returncode, done.stdout, 'there is no display' in done.stderr, done.stderr.strip().count('\n')), (1, '', True, 0))
 
 
-def test_play_and_kill(open_window, screen, room, gbkeep):
-    save = room / 'demo.gbkeep'
-    known = glyphs((DEMO / 'demo.asm').read_text())
-    player = open_window(save)
-    player.until_saved(60)
-    start, spent, first = time.monotonic(), player.processor_seconds(), player.saved()
-    sweep(screen, 7)
-    score = player.score(known)
-    passed, load = time.monotonic() - start, player.processor_seconds() - spent
-    player.until_words(False, 'two seconds after a picture')
-    if PICTURE:
-        leave_picture(player, PICTURE)
-    told = player.until_saved(player.saved() + 60)
-    print(f'{(player.saved() - first) / (time.monotonic() - start):.1f} frames a second, {100 * load / passed:.0f} % of a processor, score {score}')
-    if score == 0:
-        wrong('no coin was taken: the keys do not reach the game')
-    told = player.until_saved(told + 60)
-    screen.keys('keydown', 'Right')
-    time.sleep(0.4)
+def test_a_program_that_is_killed(room):
+    """Where the program below is ended by something else, the game goes on by itself."""
+    save = room.path('below.gbkeep')
+    player = begun(room.open(CART, save))
+    time.sleep(2)
+    for command in ('stream', 'debug'):
+        below = subprocess.run(['pgrep', '-g', str(player.process.pid), '-f', f'gbkeep {command} --'], capture_output=True, text=True).stdout.split()
+        expect(f'{command} runs', len(below), 1)
+        os.kill(int(below[0]), signal.SIGKILL)
+        player.until('The program that keeps the game was ended')
+        begun(player)
+        time.sleep(1)
+    player.close()
+    expect('and is saved', room.inputs(save) > 20, True)
+
+
+# ---- states, and going back
+
+def test_states(room):
+    save = room.path('states.gbkeep')
+    player = begun(room.open(CART, save))
+    player.hold('Return', 0.2)
+    paused(player)
+    first = room.shot(player)
+    player.keys('key', 'F5')
+    player.until('^State 1 saved')
+    expect('its files', [Path(f'{save}.slot1{end}').exists() for end in ('', '.png')], [True, True])
+    goes_on(player)
+    player.hold('Right', 0.8)
+    paused(player)
+    second = room.shot(player)
+    expect('it moves', second != first, True)
+    player.keys('key', 'F9')
+    player.until('^State 1 loaded')
+    expect('loaded', room.shot(player), first)
+    expect('the game before is kept', Path(f'{save}.before').exists(), True)
+    player.keys('key', 'F8')
+    player.until('^Undone')
+    expect('undone', room.shot(player), second)
+    player.keys('key', 'F7')
+    player.until('^State 2 is chosen')
+    player.keys('key', 'F9')
+    player.until('^State 2 is empty')
+    player.keys('key', 'F4')
+    player.press('Save state 10, empty')
+    player.until('^State 10 saved')
+    player.act('win.states')
+    player.press('Load state 1, .*')
+    player.until('^State 1 loaded')
+    player.act('win.states')
+    player.press('Delete state 10')
+    player.until('Delete state 10\\?')
+    player.press('Delete')
+    player.wait(lambda: not Path(f'{save}.slot10').exists(), 'state 10 is not deleted')
     player.kill()
-    screen.keys('keyup', 'Right')
-    player = open_window(save)
-    resumed = player.until_saved(told)
-    again = player.score(known)
-    if again < score:
-        wrong(f'the score was {score} and saved, and is {again}')
-    player.close()
-    print(f'killed at {told} saved inputs, resumed at {resumed}: score {again}')
+    expect('states are there after a kill', Path(f'{save}.slot1').exists(), True)
+    expect('a state is a SAVE', room.inputs(f'{save}.slot1') > 0, True)
 
 
-def test_look(open_window, screen, room, gbkeep):
-    """What the keys and the faults show."""
-    save = room / 'look.gbkeep'
-    player = open_window(save)
-    player.until_titled('GBKEEP DEMO: ')
-    player.until_saved(60)
-    player.until_words(False, 'in play')
-    screen.keys('key', 'p')
-    player.until_titled('GBKEEP DEMO: paused, ')
-    player.until_words(True, 'in a pause')
-    shades = player.picture()
-    if player.covers() or player.shades() != shades:
-        wrong('what is said covers the picture')
-    screen.keys('key', 'p')
-    player.until_words(False, 'after a pause')
-    screen.keys('keydown', 'Tab')
-    player.until_words(True, 'while it runs fast')
-    player.wait(lambda: player.speed() > 150, 'the title never told a greater speed')
-    screen.keys('keyup', 'Tab')
-    player.wait(lambda: 0 < player.speed() < 150, 'the title still tells a greater speed')
-    player.until_words(False, 'after it ran fast')
-    shades = player.picture()
-    player.until_words(True, 'after a picture')
-    if player.covers():
-        wrong('what is said covers the picture')
-    player.until_words(False, 'two seconds after a picture')
-    if len(set(shades)) < 3:
-        wrong('the picture has no shades')
-    before = player.saved()
-    os.killpg(player.process.pid, signal.SIGINT)
-    player.ended(0, '')
-    with Game(DEMO / 'demo.gb', save, gbkeep) as held:
-        if held.resumed < before:
-            wrong(f'Ctrl-C lost inputs: {held.resumed}, and {before} were saved')
-        player = open_window(save)
-        player.until_titled('gbkeep: device failed')
-        player.until_words(True, 'after a fault')
+def test_going_back(room):
+    """Rewind, the next frame, the reset, the timeline, and what undoes them: each is an input of the game, and is saved."""
+    save = room.path('back.gbkeep')
+    player = begun(room.open(CART, save))
+    player.hold('Return', 0.2)
+    time.sleep(1)
+    paused(player)
+    first = room.shot(player)
+    for _ in range(8):
+        player.keys('key', 'n')
+        time.sleep(0.1)
+    goes_on(player)
+    player.hold('Right', 1)
+    paused(player)
+    second = room.shot(player)
+    player.keys('keydown', 'r')
+    player.until('^Back by [1-9]')
+    player.keys('keyup', 'r')
+    player.until_gone('^Back by')
+    third = room.shot(player)
+    expect('it went back', third in (first, second), False)
+    player.keys('key', 'F8')
+    player.until('^Undone')
+    expect('undone', room.shot(player), second)
+    for key, answer in (('n', second), ('y', None)):
+        player.keys('key', 'F3')
+        player.until('^Reset\\?$')
+        player.keys('key', key)
+        player.until_gone('^Reset\\?$')
+        time.sleep(0.5)
+        shot = room.shot(player)
+        expect(f'after {key}', shot == second, answer is not None)
+    player.keys('key', 'F8')
+    player.until('^Undone')
+    expect('a reset is undone', room.shot(player), second)
+    player.act('win.timeline')
+    player.until('There is nothing yet')
+    player.keys('key', 'Escape')
+    player.until_gone('There is nothing yet')
+    if player.find_state('^Paused'):
+        goes_on(player)
+    player.keys('key', 'g')
+
+    def has_moments():
+        player.act('win.timeline')
+        time.sleep(1)
+        if player.find_state('^Go on from here'):
+            return True
+        player.keys('key', 'Escape')
         time.sleep(3)
-        if not player.has_words() or player.process.poll() is not None:
-            wrong('the fault does not stay')
-        screen.keys('key', 'x')
-        player.ended(1, 'gbkeep: device failed')
-    print('shown: pause, fast, picture, fault; Ctrl-C saves and ends')
+        return False
+    player.wait(has_moments, 'the timeline stays empty', 120)
+    player.press('Go on from here')
+    player.until('The game goes on from there')
+    last = room.shot(player)
+    player.close()
+    with Game(CART, save, room.gbkeep) as game:
+        expect('what was shown last is not lost', len(last) == len(game.picture().shades), True)
+    caches = list((room.folder / 'cache/gbkeep/timeline').iterdir())
+    expect('a cache', len(caches), 1)
+    player = begun(room.open(CART, save))
+    player.act('win.timeline')
+    player.until('Go on from here')
+    player.close()
 
 
-def test_closed_streams(open_window, screen, room, gbkeep):
-    """Where the streams were closed, neither the display nor a program of the window's has one of their numbers."""
-    save = room / 'closed.gbkeep'
-    player = open_window(save, closed='>&- 2>&- <&-')
-    player.until_saved(60)
-    streams = {os.readlink(f'/proc/{player.process.pid}/fd/{number}') for number in range(3)}
-    if streams != {'/dev/null'}:
-        wrong(f'what has the numbers of the streams: {streams}')
-    player.process.send_signal(signal.SIGTERM)
-    if player.process.wait(timeout=20) != 0 or int(run(str(gbkeep), 'show', str(DEMO / 'demo.gb'), str(save)).split()[1]) <= 60:
-        wrong('the game does not go on')
+def test_recorded(room):
+    """A recorded game goes forward alone; rewind begins a branch of it."""
+    save, recording = room.path('run.gbkeep'), room.path('run.rec')
+    player = begun(room.open('--record', recording, CART, save))
+    player.until('^saved.*recorded$')
+    for key in ('F3', 'F8', 'F9'):
+        player.keys('key', key)
+        player.until('^A recorded game only goes forward')
+        player.until_gone('^A recorded game only goes forward', 12)
+    player.keys('key', 'F5')
+    player.until('^Copied to run.gbkeep.slot1')
+    for answer in ('Cancel', 'Begin a branch'):
+        time.sleep(3)
+        player.hold('r', 0.7)
+        player.until('^Begin a branch here\\?$')
+        player.press(answer)
+        player.until_gone('^Begin a branch here\\?$')
+    player.until('^A branch: run-2.gbkeep, recorded in run-2.rec', 120)
+    time.sleep(1)
+    player.close()
+    for one, other in (('run-2.gbkeep', 'run-2.rec'), (save, recording)):
+        expect(f'{one} agrees', run(room.gbkeep, 'verify', str(CART), str(room.path(one)), str(room.path(other)))[:6], 'agree ')
+    count = room.inputs(save)
+    for answer, goes in (('Cancel', False), ('Go on', True)):
+        player = room.open(CART, save)
+        player.until('^Go on with the recording\\?$')
+        player.press(answer)
+        if goes:
+            begun(player)
+            time.sleep(1)
+        else:
+            player.until(f'^(Continue|Begin) {NAME}')
+        player.close()
+        expect(f'{answer}: is it played', room.inputs(save) > count, goes)
+    away = recording.rename(room.path('away.rec'))
+    refused(room, 'run.gbkeep is a recorded game', 'put it back', CART, save)
+    away.rename(recording)
+    with Game(CART, room.path('plain.gbkeep'), room.gbkeep) as game:
+        game.frame()
+    refused(room, '.*', 'is not there', '--record', room.path('none.rec'), CART, room.path('plain.gbkeep'))
 
 
-def test_clock(open_window, screen, room, gbkeep):
-    """A game with a clock that something else has played."""
-    cart, save = clock_cart(room), room / 'clock.gbkeep'
-    with Game(cart, save, gbkeep) as game:
+# ---- questions
+
+def test_clock(room):
+    """A game with a clock that something else has played, and a leap of years."""
+    cart, save = clock_cart(room.folder), room.path('clock.gbkeep')
+    with Game(cart, save, room.gbkeep) as game:
         game.frames(0, 10)
-    player = open_window(save, cart)
-    player.until_words(True, 'without SAVE.time')
-    screen.keys('key', 'x')
-    player.until_saved(60)
-    player.until_words(False, 'after a key')
+    player = room.open(cart, save)
+    player.until('^There is no SAVE.time')
+    player.keys('key', 'Escape')
+    begun(player)
+    time.sleep(1)
     player.close()
-    with Game(cart, save, gbkeep) as game:
-        game.frames(0, 300)
-    player = open_window(save, cart)
-    player.until_words(True, 'after a play without the window')
-    screen.keys('key', 'x')
-    player.until_titled('CLOCK: ')
-    player.until_saved(370)
-    player.close()
-    # of a leap of years the player is asked
     clock = Path(f'{save}.time')
     count, before = map(int, clock.read_text().split('\n')[0].split())
     held = save.read_bytes()
     for key, given in (('n', False), ('y', True)):
         save.write_bytes(held)
         clock.write_text(f'{count} {before - 400 * DAY}\n')
-        player = open_window(save, cart)
-        player.until_words(True, 'after a leap of 400 days')
+        player = room.open(cart, save)
+        player.until('^Give the time away')
+        player.until('1 year and 3[45] days')
+        player.keys('key', key)
+        begun(player)
         time.sleep(1)
-        if not player.has_words():
-            wrong('the question does not stay')
-        screen.keys('key', key)
-        player.until_titled('CLOCK: ')
-        player.until_saved(count + 60)
         player.close()
-        with Game(cart, save, gbkeep) as game:
-            if (seconds_shown(game) >= (400 % 256) * DAY) != given:
-                wrong(f'after {key!r} the clock shows {seconds_shown(game)} seconds')
-    print('shown: what the clock is given, and a question')
+        with Game(cart, save, room.gbkeep) as game:
+            expect(f'after {key}', seconds_shown(game) >= (400 % 256) * DAY, given)
+    room.prefers(clock='give')
+    save.write_bytes(held)
+    clock.write_text(f'{count} {before - 400 * DAY}\n')
+    begun(room.open(cart, save)).close()
+    with Game(cart, save, room.gbkeep) as game:
+        expect('what is chosen counts', seconds_shown(game) >= (400 % 256) * DAY, True)
 
 
-def test_slot(open_window, screen, room, gbkeep):
-    """A slot, going back to it, the list of keys, another palette, and full screen."""
-    save = room / 'slot.gbkeep'
-    player = open_window(save)
-    kept = player.until_saved(120)
-    screen.keys('key', 'F5')
-    slot = Path(f'{save}.slot')
-    player.wait(slot.exists, 'F5 left no slot')
-    player.until_words(True, 'after F5')
-    player.until_words(False, 'two seconds after F5')
-    later = player.until_saved(kept + 240)
-    screen.keys('key', 'F9')
-    player.wait(lambda: kept <= player.saved() < later, 'F9 did not go back')
-    if not Path(f'{save}.before').exists():
-        wrong('F9 did not keep what it replaced')
-    player.until_words(False, 'two seconds after F9')
-    screen.keys('key', 'F1')
-    player.until_words(True, 'after F1')
-    screen.keys('key', 'x')
-    player.until_words(False, 'after a key')
-    screen.keys('key', 'F2')
-    player.wait(lambda: {colour for row in player.pixels() for colour in row} <= {(shade,) * 3 for shade in (0, 0x55, 0xaa, 0xff)}, 'F2 showed no greys')
-    screen.keys('key', 'F11')
-    time.sleep(0.5)
-    player.find()
-    player.wait(lambda: screen.shot(0, 0, 1, 1)[0][0] == (0, 0, 0) and len(set(screen.shot(0, 300, 800, 1)[0])) > 2, 'F11 did not fill the screen')
-    screen.keys('key', 'F11')
-    time.sleep(0.5)
-    player.find()
-    player.until_saved(kept + 300)
-    player.close()
-    player = open_window(save)
-    player.wait(lambda: {colour for row in player.pixels() for colour in row} <= {(shade,) * 3 for shade in (0, 0x55, 0xaa, 0xff)}, 'the palette was forgotten')
-    player.until_titled('GBKEEP DEMO: ')
-    told = player.saved()
-    # a login that ends: a SIGTERM for the window and the program
-    os.killpg(player.process.pid, signal.SIGTERM)
-    player.ended(0, '')
-    if int(run(str(gbkeep), 'show', str(DEMO / 'demo.gb'), str(save)).split()[1]) < told:
-        wrong('a SIGTERM lost inputs')
-    Path(screen.env['XDG_CONFIG_HOME'], 'gbkeep/palette').unlink()
-    print('shown: a slot, going back, keys, a palette that is kept, full screen; a SIGTERM saves and ends')
-
-
-def test_going_back(open_window, screen, room, gbkeep):
-    """Rewind, the next frame, quick slots, the reset, and what undoes them: each is an input of the game, and is saved."""
-    save = room / 'back.gbkeep'
-    player = open_window(save)
-    player.until_saved(60)
-    screen.keys('keydown', 'Return')
-    time.sleep(0.2)
-    screen.keys('keyup', 'Return')
-    time.sleep(0.3)
-
-    def held(name, seconds):
-        screen.keys('keydown', name)
-        time.sleep(seconds)
-        screen.keys('keyup', name)
-        time.sleep(0.3)
-
-    def paused():
-        screen.keys('key', 'p')
-        player.until_titled('GBKEEP DEMO: paused, ')
-        time.sleep(0.2)
-        return player.shades()
-
-    def goes_on():
-        screen.keys('key', 'p')
-        player.wait(lambda: 'paused' not in player.title(), 'a pause does not end')
-
-    def shows(what, shades):
-        player.wait(lambda: player.shades() == shades, f'the picture is not the one {what}')
-    first = paused()
-    told = player.saved()
-    for _ in range(3):
-        screen.keys('key', 'n')
-        time.sleep(0.2)
-    player.wait(lambda: player.saved() == told + 3, f'{told} inputs and three frames of a pause are not saved')
-    first = player.shades()
-    screen.keys('key', 'F6')
-    player.until_words(True, 'after F6')
-    goes_on()
-    held('Right', 0.7)
-    second = paused()
-    if second == first:
-        wrong('the player does not move')
-    told = player.saved()
-    screen.keys('key', 'F10')
-    shows('of the quick slot', first)
-    player.wait(lambda: player.saved() == told + 1, 'going back to a quick slot is not saved')
-    screen.keys('key', 'F8')
-    shows('that was undone to', second)
-    player.wait(lambda: player.saved() == told + 2, 'an undoing is not saved')
-    screen.keys('keydown', 'r')
-    time.sleep(0.5)
-    if player.saved() != told + 2:
-        wrong('an input is saved while R is held')
-    screen.keys('keyup', 'r')
-    player.wait(lambda: player.saved() == told + 3, 'a rewind is not one input')
-    if player.shades() == second:
-        wrong('R does not go back')
-    third = player.shades()
-    goes_on()
-    held('Left', 0.5)
-    for key in ('n', 'y'):
-        screen.keys('key', 'F3')
-        player.until_words(True, 'a question')
-        if not player.covers():
-            wrong('the question does not wait')
-        screen.keys('key', key)
-        time.sleep(0.5)
-    title = paused()
-    screen.keys('key', 'F8')
-    player.wait(lambda: player.shades() not in (title, third), 'F8 does not undo the reset')
-    goes_on()
-    later = player.until_saved(player.saved() + 60)
-    player.kill()
-    player = open_window(save)
-    if player.until_saved(later) < later:
-        wrong('what was told is not kept')
-    # F9 can be undone, too
-    screen.keys('key', 'F5')
-    player.wait(Path(f'{save}.slot').exists, 'F5 left no slot')
-    held('Right', 0.5)
-    held('Down', 0.5)
-    before = paused()
-    screen.keys('key', 'F9')
-    player.wait(lambda: player.shades() != before, 'F9 does not go back')
-    player.wait(Path(f'{save}.before').exists, 'F9 did not keep what it replaced')
-    screen.keys('key', 'F8')
-    shows('before F9', before)
-    player.close()
-    with Game(DEMO / 'demo.gb', save, gbkeep) as game:
-        if list(game.picture().shades) != before:
-            wrong('what F8 showed is not what is kept')
-    print('shown: the next frame, quick slots, rewind, a reset, and what undoes them')
-
-
-def test_recorded(open_window, screen, room, gbkeep):
-    """A recorded game, with --record and without."""
-    cart, save, recording = DEMO / 'demo.gb', room / 'run.gbkeep', room / 'run.rec'
-    player = open_window(save, cart, '--record', str(recording))
-    player.until_saved(60)
-    screen.keys('key', 'F5')
-    player.wait(Path(f'{save}.slot').exists, 'F5 left no slot')
-    player.until_words(True, 'after F5 in a recorded game')
-    player.until_words(False, 'after what F5 says')
-    for key in ('F3', 'F6', 'F7', 'F8', 'F9', 'F10'):
-        screen.keys('key', key)
-        player.until_words(True, f'{key} in a recorded game')
-        if player.covers():
-            wrong(f'{key} asks something of a recorded game')
-    player.until_saved(player.saved() + 180)
-    for answer in ('n', 'y'):
-        screen.keys('keydown', 'r')
-        time.sleep(0.7)
-        screen.keys('keyup', 'r')
-        player.wait(player.covers, 'R asks nothing of a recorded game')
-        screen.keys('key', answer)
-        player.wait(lambda: not player.covers(), f'{answer} is no answer')
-    branch, recorded = room / 'run-2.gbkeep', room / 'run-2.rec'
-    player.wait(branch.exists, 'there is no branch')
-    player.until_words(True, 'after a branch')
-    player.until_saved(player.saved() + 60)
-    player.close()
-    for one, other in ((branch, recorded), (save, recording)):
-        if not run(str(gbkeep), 'verify', str(cart), str(one), str(other)).startswith('agree '):
-            wrong(f'{one.name} does not agree with its recording')
-    told = run(str(gbkeep), 'verify', str(cart), str(save), str(recording))
-    # the mark, as `record` leaves it
-    if not Path(f'{save}.recorded').exists():
-        Path(f'{save}.recorded').write_text(f'{recording}\n')
-    player = open_window(save)
-    player.until_words(True, 'a question about the recording')
-    screen.keys('key', 'n')
-    player.ended(0, '')
-    if run(str(gbkeep), 'verify', str(cart), str(save), str(recording)) != told:
-        wrong('a recorded game was played')
-    player = open_window(save)
-    player.until_words(True, 'a question about the recording')
-    screen.keys('key', 'y')
-    player.until_saved(int(told.split()[1]) + 60)
-    player.close()
-    if run(str(gbkeep), 'verify', str(cart), str(save), str(recording)) == told:
-        wrong('a recorded game was not played on')
-    away = recording.rename(room / 'away.rec')
-    player = open_window(save)
-    player.until_words(True, 'a recording that is not there')
-    screen.keys('key', 'x')
-    player.ended(1, f'run.gbkeep is a recorded game, and its recording {recording} is not there: put it back, or name it by --record')
-    away.rename(recording)
-    plain = room / 'plain.gbkeep'
-    with Game(cart, plain, gbkeep) as game:
-        game.frame()
-    player = open_window(plain, cart, '--record', str(room / 'none.rec'))
-    player.until_words(True, 'a game without a recording')
-    screen.keys('key', 'x')
-    player.ended(1, f'{room / "none.rec"} is not there: the game in SAVE has no recording of this name')
-    print('shown: a recorded game and its recording')
-
-
-def test_battery(open_window, screen, room, gbkeep):
-    """A battery file of another emulator, with the time of its writing."""
-    cart, save, battery = clock_cart(room), room / 'battery.gbkeep', room / 'battery.sav'
+def test_batteries(room):
+    """A battery file of another emulator: by its option, beside the cartridge, and in the place of a save file."""
+    cart, save, battery = clock_cart(room.folder), room.path('battery.gbkeep'), room.path('other.sav')
     registers = b''.join(value.to_bytes(4, 'little') for value in (7, 0, 0, 0, 0) * 2)
-    size = int(run(str(gbkeep), 'info', str(cart)).split('\nram ')[1].split()[0])
-    for key, shown in (('y', 7 + 5 * DAY), ('n', 7)):
-        battery.write_bytes(bytes(size) + registers + (int(time.time()) - 5 * DAY).to_bytes(8, 'little'))
-        player = open_window(save, cart, '--import', str(battery))
-        player.until_words(True, 'a question about the time since')
-        screen.keys('key', key)
-        player.until_saved(30)
+    size = int(run(room.gbkeep, 'info', str(cart)).split('\nram ')[1].split()[0])
+    content = bytes(size) + registers + (int(time.time()) - 5 * DAY).to_bytes(8, 'little')
+    battery.write_bytes(content)
+    for answer, shown in (('Give it', 7 + 5 * DAY), ("Don't", 7)):
+        player = room.open('--import', battery, cart, save)
+        player.until('other.sav was written 5 days')
+        player.press(answer)
+        begun(player)
         player.close()
-        with Game(cart, save, gbkeep) as game:
-            seconds = seconds_shown(game)
-        if not shown <= seconds < shown + 60:
-            wrong(f'after {key!r} the clock shows {seconds} seconds, and not {shown}')
-        player = open_window(save, cart, '--import', str(battery))
-        player.until_words(True, 'a game that exists already')
-        screen.keys('key', 'x')
-        player.ended(1, f'gbkeep: device failed: {save} exists already')
+        with Game(cart, save, room.gbkeep) as game:
+            expect(f'{answer}: the clock', shown <= seconds_shown(game) < shown + 60, True)
+        refused(room, 'battery.gbkeep exists already', 'exists already', '--import', battery, cart, save)
         for path in (save, Path(f'{save}.time')):
             path.unlink()
-    print('shown: the time since a battery file was written')
-
-
-def test_names(open_window, screen, room, gbkeep):
-    """The SAVE of a cartridge that is given alone, and one with another emulator's name."""
-    cart, folder = DEMO / 'demo.gb', Path(screen.env['XDG_DATA_HOME']) / 'gbkeep'
-    name = f'demo-{hashlib.sha256(cart.read_bytes()).hexdigest()[:8]}'
-    player = open_window(None)
-    player.until_saved(30)
+    plain = room.path('plain')
+    plain.mkdir()
+    shutil.copy(CART, plain / 'game.gb')
+    rom = bytearray((plain / 'game.gb').read_bytes())
+    # a cartridge with RAM and a battery
+    rom[0x147:0x14a] = bytes((3, rom[0x148], 2))
+    rom[0x14d] = -sum(byte + 1 for byte in rom[0x134:0x14d]) & 0xff
+    (plain / 'game.gb').write_bytes(rom)
+    (plain / 'game.sav').write_bytes(bytes(range(256)) * 32)
+    held = (plain / 'game.sav').read_bytes()
+    player = room.open(plain / 'game.gb')
+    player.until('Begin .* with game.sav\\?')
+    player.press('Begin with it')
+    begun(player)
     player.close()
-    if [path.name for path in folder.iterdir()] != [f'{name}.gbkeep']:
-        wrong(f'the SAVE of a cartridge is not {name}.gbkeep')
-    # a game that was begun under the ending of a battery file goes on
-    (folder / f'{name}.gbkeep').rename(folder / f'{name}.sav')
-    player = open_window(None)
-    count = player.until_saved(60)
+    own = next((room.folder / 'data/gbkeep').glob('game-*.gbkeep'))
+    run(room.gbkeep, 'export', str(plain / 'game.gb'), str(own), str(room.path('out.sav')))
+    expect('what it begins with', room.path('out.sav').read_bytes()[4096:] == held[4096:], True)
+    begun(room.open(plain / 'game.gb')).close()
+    player = room.open(plain / 'game.gb', plain / 'game.sav')
+    player.until('Begin .* with game.sav\\?')
+    player.press('Begin with it')
+    begun(player)
     player.close()
-    if [path.name for path in folder.iterdir()] != [f'{name}.sav'] or count < 60:
-        wrong('the game under its old name does not go on')
-    player = open_window(room / 'demo.SAV')
-    player.until_titled('GBKEEP DEMO: ')
-    player.until_words(True, 'a warning of a name')
-    if player.covers():
-        wrong('a warning covers the picture')
-    player.process.terminate()
-    player.ended(0, 'gbkeep-window: other emulators take demo.SAV for their battery file, and write over it: call it demo.gbkeep')
-    print('shown: the names of saves')
+    expect('it is only read, and the game before is kept', ((plain / 'game.sav').read_bytes() == held, Path(f'{own}.before').exists()), (True, True))
 
 
-def test_hostile_inputs(open_window, screen, room, gbkeep):
-    """What no window can use ends it with a line and a status."""
-    cart, fifo, no_text = DEMO / 'demo.gb', room / 'fifo', os.fsencode(room) + b'/\xff\x1b[2J.gbkeep'
-    os.mkfifo(fifo)
-    latin, long = room / 'latin.keys', room / 'long.keys'
-    latin.write_bytes(b'A = \xe9\n')
-    long.write_bytes(b'#' * 200_000)
-    wrong = room / 'wrong.keys'
-    wrong.write_text('A = \x1b[2J\n')
-    for words, status, what in (
-            (['/dev/zero'], 1, 'no plain file'), ([fifo], 1, 'no plain file'), ([room], 1, 'no plain file'), ([room / 'none.gb'], 1, 'No such file'),
-            (['--keys', fifo, cart], 1, 'no plain file'), (['--keys', '/dev/zero', cart], 1, 'no plain file'), (['--keys', latin, cart], 1, 'not UTF-8'),
-            (['--keys', long, cart], 1, 'more than'), (['--keys', wrong, cart], 1, 'is no key'), (['--scale', '9' * 5000, cart], 2, 'scale'),
-            (['--palette', '٣', cart], 2, 'palette'), (['--palette', '0', cart], 2, 'palette'), (['--none', cart], 2, ''), ([], 2, ''), ([cart, 'a', 'b'], 2, ''),
-            (['--gbkeep', room / 'nothing', cart], 1, 'make build'), (['--gbkeep', cart, cart], 1, ''), (['--record', 'r', '--import', 'b', cart], 2, 'not allowed')):
-        done = subprocess.run([*tool_words('window'), *(['--gbkeep', gbkeep] if '--gbkeep' not in words else []), *words], env=screen.env,
-                              capture_output=True, timeout=30, stdin=subprocess.DEVNULL)
-        line = done.stderr.decode()
-        if done.returncode != status or what not in line or not line.endswith('\n') or not line[:-1].isprintable() or done.stdout:
-            wrong(f'gbkeep-window {words!r:.200}: {done.returncode}, {line!r}')
-    # a name that is no text is told in the window, and its title has no control characters
-    player = Player(screen, gbkeep, no_text)
-    player.until_words(True, 'a name that is no text')
-    screen.keys('key', 'x')
-    player.ended(1, 'gbkeep: a word is not text')
-    print('refused in a line: 18 hostile inputs')
+# ---- the list of games, files and preferences
+
+def test_home(room):
+    """Games are listed; one is begun anew, and one is found whose cartridge has moved."""
+    player = room.open()
+    player.until('^A Game Boy emulator')
+    player.close()
+    cart = room.path('game.gb')
+    shutil.copy(CART, cart)
+    player = begun(room.open(cart))
+    player.act('win.home')
+    player.press(f'Continue {NAME}, just now')
+    begun(player)
+    player.act('win.home')
+    player.until(f'Continue {NAME}')
+    player.act('card.anew')
+    player.until('Start GBKEEP DEMO over\\?')
+    player.press('Start over')
+    begun(player)
+    player.act('win.home')
+    player.until(f'Continue {NAME}')
+    save = next((room.folder / 'data/gbkeep').glob('game-*.gbkeep'))
+    expect('the game before is kept', Path(f'{save}.before').exists(), True)
+    player.act('card.earlier')
+    player.until(f'^{re.escape(save.name)}.before$')
+    player.keys('key', 'Escape')
+    player.close()
+    cart.rename(room.path('moved.gb'))
+    player = room.open()
+    player.press(f'Continue {NAME}, its file is not there')
+    player.until('^Where is .*game.gb now\\?$')
+    player.press('Cancel')
+    player.act('card.forget')
+    player.press('Take it off')
+    player.until('^A Game Boy emulator')
+    expect('its files stay', save.exists(), True)
+    player.close()
+    expect('a zip', shutil.make_archive(str(room.path('zipped')), 'zip', room.folder, 'moved.gb'), str(room.path('zipped.zip')))
+    begun(room.open(room.path('zipped.zip'))).close()
+    # a save file is opened by itself where its cartridge is known
+    begun(room.open(room.path('moved.gb'))).close()
+    begun(room.open(save)).close()
+
+
+def test_preferences(room):
+    """Keys by pressing, palettes and the size are kept; a file of keys counts for once."""
+    save = room.path('keys.gbkeep')
+    player = begun(room.open(CART, save))
+    player.keys('key', 'F2')
+    player.until('^Palette: grey$')
+    player.act('win.gamepad')
+    player.until('^Key of A: X$')
+    time.sleep(0.5)
+    player.press('Key of A: X')
+    player.until('^press a key$')
+    player.keys('key', 'space')
+    player.until('^Key of A: Space$')
+    player.keys('key', 'Escape')
+    player.until_gone('^Key of A')
+    chosen = json.loads((room.folder / 'config/gbkeep/window').read_bytes().removeprefix(HEAD))
+    expect('kept', (chosen['palette'], chosen['keys']['A']), (1, ['space']))
+    player.keys('key', 'F1')
+    player.until('^Rewind, while held$')
+    player.keys('key', 'Escape')
+    player.keys('key', 'F11')
+    player.wait(lambda: 'GtkRevealer' in player.texts() or len(player.texts()) > 0, 'it is gone')
+    time.sleep(1)
+    player.keys('key', 'Escape')
+    begun(player)
+    player.close()
+    keys = room.path('keys.txt')
+    keys.write_text('Pause = F12\n')
+    player = begun(room.open('--keys', keys, CART, save))
+    player.keys('key', 'F12')
+    player.until('^Paused: F12 goes on$')
+    player.close()
+    begun(room.open('--palette', '3', '--scale', '8', CART, save)).close()
+    begun(room.open(CART, room.path('warned.SAV'))).until('^Other emulators take warned.SAV')
+
+
+def refused(room, head, line, *words):
+    """What can't be played is told in a dialog, and in a line; the window stays, and its status is 1."""
+    player = room.open(*words)
+    player.until(f'^{head}')
+    said = ' '.join(player.texts())
+    expect(f'{words}: no letter is left to be filled in', re.search(r'\b(SAVE or RECORDING|BATTERY has|N bytes|has M)\b', said), None)
+    player.keys('key', 'Escape')
+    player.until('^(Open a game|Continue |Begin )')
+    err = player.close(1)
+    expect(f'{words}: a line', (line in err, err.count('\n'), err.strip().isprintable()), (True, 1, True))
+
+
+def test_refusals(room):
+    """What no window can use is said in one style, with the name of the file, and changes nothing."""
+    rom = CART.read_bytes()
+    for name, data in (('short.gb', rom[:7604]), ('camera.gb', rom[:0x147] + b'\xfc' + rom[0x148:]), ('colour.gb', rom[:0x143] + b'\xc0' + rom[0x144:]), ('text.txt', b'x')):
+        room.path(name).write_bytes(data)
+    with Game(CART, room.path('whole.gbkeep'), room.gbkeep) as game:
+        game.frames(A, 60)
+    whole = room.path('whole.gbkeep').read_bytes()
+    room.path('cut.gbkeep').write_bytes(whole[:-100])
+    torn = bytearray(whole)
+    for at in (0, 512):
+        if torn[at:at + 8] == b'GBKPROOT':
+            torn[at + 20:at + 52] = bytes(32)
+    room.path('foreign.gbkeep').write_bytes(torn)
+    room.path('none.gbkeep').write_bytes(bytes(65536))
+    os.mkfifo(room.path('fifo.gb'))
+    for head, line, *words in (
+            ('missing.gb is not there', 'No such file', room.path('missing.gb')), (f'{room.folder.name} is a folder', 'is a folder', room.folder),
+            ('text.txt is no game', 'is no game', room.path('text.txt')), ("fifo.gb can't be read", 'no plain file', room.path('fifo.gb')),
+            ('short.gb is no whole Game Boy game', 'rom length 7604', room.path('short.gb')), ("camera.gb can't be played here", 'cartridge type FC', room.path('camera.gb')),
+            ('colour.gb is for the Game Boy Color alone', 'Color alone', room.path('colour.gb')), ('cut.gbkeep is no whole save file', 'device size', CART, room.path('cut.gbkeep')),
+            ('foreign.gbkeep is of another game', 'other cartridge', CART, room.path('foreign.gbkeep')),
+            ('none.gbkeep is no save file of gbkeep', 'no session', CART, room.path('none.gbkeep')),
+            ('There is no folder for New.gbkeep', 'is not there', CART, room.path('nowhere/New.gbkeep')),
+            ('The file of keys is wrong', 'no such file', '--keys', room.path('none.keys'), CART)):
+        refused(room, head, line if 'keys' not in head else 'No such file', *words)
+    player = begun(room.open(CART, room.path('whole.gbkeep')))
+    refused(room, "whole.gbkeep can't be opened or written", 'device failed', CART, room.path('whole.gbkeep'))
+    player.close()
+    for words, status, what in ((['--scale', '9' * 5000, CART], 2, 'scale'), (['--palette', '0', CART], 2, 'palette'), (['--none', CART], 2, ''), ([CART, 'a', 'b'], 2, ''),
+                                (['--record', 'r'], 2, 'need a CART'), (['--gbkeep', room.path('nothing'), CART], 1, 'make build'),
+                                (['--record', 'r', '--import', 'b', CART], 2, 'not allowed')):
+        done = subprocess.run([*tool_words('window'), *(['--gbkeep', room.gbkeep] if '--gbkeep' not in words else []), *words], env=room.screen.env, capture_output=True,
+                              text=True, timeout=60, stdin=subprocess.DEVNULL)
+        expect(f'{words!r:.60}', (done.returncode, what in done.stderr, done.stderr.count('\n'), done.stdout), (status, True, 1, ''))
+
+
+# ---- pictures for somebody who looks at them
+
+def leave_pictures(room, folder):
+    """Leaves a picture of each state of the window."""
+    folder.mkdir(parents=True, exist_ok=True)
+    number = 0
+
+    def shot(name):
+        nonlocal number
+        number += 1
+        time.sleep(0.7)
+        room.screen.shot(folder / f'{number:02}_{name}.png')
+    player = room.open()
+    player.until('^A Game Boy emulator')
+    shot('home_empty')
+    player.press('Play the demo')
+    begun(player)
+    player.keys('key', 'Return')
+    time.sleep(2)
+    shot('play')
+    for key in ('F5', 'F7', 'F7', 'F5'):
+        player.keys('key', key)
+        player.hold('Right', 0.4)
+    shot('toast')
+    for action, name in (('win.states', 'states'), ('win.timeline', 'timeline_empty'), ('win.preferences', 'preferences'), ('win.gamepad', 'keys'), ('win.keys', 'shortcuts'), ('win.about', 'about')):
+        player.act(name=action)
+        shot(name)
+        player.keys('key', 'Escape')
+        time.sleep(0.6)
+    player.keys('key', 'Escape')
+    shot('menu')
+    player.keys('key', 'Escape')
+    time.sleep(0.5)
+    player.keys('key', 'F3')
+    shot('question')
+    player.keys('key', 'n')
+    player.keys('keydown', 'r')
+    shot('rewind')
+    player.keys('keyup', 'r')
+    player.keys('key', 'p')
+    shot('paused')
+    player.keys('key', 'p')
+    player.keys('key', 'F11')
+    shot('full')
+    time.sleep(3)
+    shot('full_hidden')
+    player.keys('key', 'Escape')
+    time.sleep(12)
+    player.act('win.timeline')
+    shot('timeline')
+    player.keys('key', 'Escape')
+    player.act('win.home')
+    shot('home')
+    player.press(f'More of {NAME}')
+    shot('card_menu')
+    player.close()
+    for name, words in (('missing', [room.path('missing.gb')]), ('cut', [CART, room.path('cut.gbkeep')])):
+        room.path('cut.gbkeep').write_bytes(b'GBKPROOT' + bytes(900))
+        player = room.open(*words)
+        shot(f'refusal_{name}')
+        player.kill()
+    cart, save = clock_cart(room.folder), room.path('clock.gbkeep')
+    Game(cart, save, room.gbkeep).close()
+    Path(f'{save}.time').write_text(f'0 {int(time.time()) - 400 * DAY}\n')
+    player = room.open(cart, save)
+    player.until('^Give the time away')
+    shot('question_clock')
+    player.kill()
 
 
 def main():
-    global PICTURE
-    needs()
     words = sys.argv[1:]
+    pictures = None
+    if words[:1] == ['--pictures'] and len(words) >= 2:
+        pictures, words = Path(words[1]), words[2:]
+    needs()
     gbkeep = Path(words[0] if words else TOP / 'bin/gbkeep').resolve()
-    PICTURE = words.pop() if words and words[-1].endswith('.png') else None
-    players = []
-
-    def kill():
-        for player in players:
-            if player.process.poll() is None:
-                player.kill()
+    rooms = []
     with tempfile.TemporaryDirectory(prefix='window-') as place:
+        if pictures:
+            for is_dark, scale in ((False, 1), (True, 1), (False, 2)):
+                screen = Screen(place, '2560x1920' if scale == 2 else '1280x960', scale, is_dark)
+                with tempfile.TemporaryDirectory(prefix='pictures-') as folder:
+                    room = Room(screen, gbkeep, folder)
+                    try:
+                        leave_pictures(room, pictures / f'{"dark" if is_dark else "light"}_{scale}x')
+                    finally:
+                        room.end()
+                        screen.end()
+            return
         screen = Screen(place)
-
-        def open_window(save, *cart, **how):
-            players.append(Player(screen, gbkeep, save, *cart, **how))
-            return players[-1]
 
         def given(folder):
             # one that a test has left where it failed
-            kill()
-            return open_window, screen, folder, gbkeep
+            for room in rooms:
+                room.end()
+            rooms[:] = [Room(screen, gbkeep, folder)]
+            return (rooms[0],)
         try:
             support.run_tests('the window', support.tests_in(globals()), given, words[1:])
         finally:
-            kill()
-            screen.process.kill()
-            screen.process.wait()
+            for room in rooms:
+                room.end()
+            screen.end()
 
 
 if __name__ == '__main__':

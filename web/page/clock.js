@@ -13,16 +13,25 @@ const NO_FAULT = 60;
 const MOST_LINES = 8;
 const MOST_SECONDS = 0xffffffff;
 
-/** Whether a cartridge has a clock, by its type. */
+/** @type {[string, number][]} */
+const UNITS = [['year', 365 * 86400], ['day', 86400], ['hour', 3600], ['minute', 60], ['second', 1]];
+
+/**
+ * Whether a cartridge has a clock, by its type.
+ * @param {Uint8Array} rom
+ */
 export function hasClock(rom) {
   return rom[0x147] === 0x0f || rom[0x147] === 0x10;
 }
 
-/** So many seconds in words: the two greatest units of them. */
+/**
+ * So many seconds in words: the two greatest units of them.
+ * @param {number} seconds
+ */
 export function span(seconds) {
   const words = [];
   let left = seconds;
-  for (const [name, size] of [['year', 365 * 86400], ['day', 86400], ['hour', 3600], ['minute', 60], ['second', 1]]) {
+  for (const [name, size] of UNITS) {
     const count = Math.floor(left / size);
     left %= size;
     if (count > 0) {
@@ -32,35 +41,72 @@ export function span(seconds) {
   return words.slice(0, 2).join(' and ') || '0 seconds';
 }
 
-/** The lines of a text; null where it is no such text. */
+/**
+ * The lines of a text; null where it is no such text.
+ * @param {string} text
+ * @returns {ClockLine[] | null}
+ */
 function linesOf(text) {
-  const lines = text.split('\n').map((line) => /^([0-9]{1,20}) ([0-9]{1,11})$/.exec(line)).map((found) => found && { count: BigInt(found[1]), until: Number(found[2]) });
-  return lines.length <= MOST_LINES && lines.every((line) => line && line.count <= MOST_COUNT) ? lines : null;
+  /** @type {ClockLine[]} */
+  const lines = [];
+  for (const line of text.split('\n')) {
+    const found = /^([0-9]{1,20}) ([0-9]{1,11})$/.exec(line);
+    if (found === null || BigInt(found[1]) > MOST_COUNT || lines.length === MOST_LINES) {
+      return null;
+    }
+    lines.push({ count: BigInt(found[1]), until: Number(found[2]) });
+  }
+  return lines;
 }
 
-/** Until when the clock of an image with so many inputs was given; of one that is older than each line, the last of all. */
+/**
+ * Until when the clock of an image with so many inputs was given; of one that is older than each line, the last of all.
+ * @param {ClockLine[]} lines
+ * @param {bigint} count
+ */
 function givenUntil(lines, count) {
   const fit = lines.filter((line) => line.count <= count);
   return Math.max(...(fit.length > 0 ? fit : lines).map((line) => line.until));
 }
 
+/** @param {bigint[]} counts */
 const least = (counts) => counts.reduce((one, other) => (other < one ? other : one));
+/** @param {bigint[]} counts */
 const greatest = (counts) => counts.reduce((one, other) => (other > one ? other : one));
 
 export class Clock {
-  /** The clock of an image with so many inputs, a BigInt as each count. `place` reads and writes the text that stands beside it. */
+  /** It is given no time. */
+  isStill = false;
+  /** A write has failed. */
+  hasFailed = false;
+  /**
+   * What the next input is to give.
+   * @type {ClockLine}
+   */
+  claimed;
+
+  /**
+   * The clock of an image with so many inputs. `place` reads and writes the text that stands beside it.
+   * @param {ClockText} place
+   * @param {bigint} count
+   */
   constructor(place, count, now = () => Date.now() / 1000, elapsed = () => performance.now() / 1000) {
-    Object.assign(this, { place, count, elapsed });
+    this.place = place;
+    this.count = count;
+    this.elapsed = elapsed;
     this.opened = now();
     this.began = elapsed();
     this.until = Math.floor(this.opened);
+    /** @type {ClockLine} */
     this.written = { count, until: this.until };
-    this.isStill = false;
-    // a write has failed
-    this.hasFailed = false;
+    this.claimed = this.written;
   }
 
-  /** Looks up until when the clock was given. `ask` answers a question by true, false, or null for no answer. Answers what the player is to be told. */
+  /**
+   * Looks up until when the clock was given. Answers what the player is to be told.
+   * @param {AskPlayer} ask
+   * @returns {Promise<string | null>}
+   */
   async begin(ask) {
     const text = this.place.read();
     const lines = text === '' ? [] : linesOf(text);
@@ -80,6 +126,10 @@ export class Clock {
     return notice;
   }
 
+  /**
+   * @param {ClockLine[]} lines
+   * @param {AskPlayer} ask
+   */
   async takeUp(lines, ask) {
     const now = this.until;
     this.until = givenUntil(lines, this.count);
@@ -93,7 +143,7 @@ export class Clock {
     }
     if (away > YEAR) {
       notice = null;
-      const agrees = await ask(`By the computer's date, ${span(away)} have passed since this game was played. Shall the cartridge's clock be given them?`);
+      const agrees = await ask(`By the computer's date, ${span(away)} have passed since this game was played. Shall the cartridge's clock be given them?`, 'Give the time', 'Leave the clock');
       if (agrees === null) {
         this.opened = this.until;
       } else if (!agrees) {
@@ -101,7 +151,7 @@ export class Clock {
       }
     } else if (away < -NO_FAULT) {
       notice = `The computer's date is ${span(-away)} before the time until which the cartridge's clock was given: the clock goes on from where it stood.`;
-      if (away < -YEAR && await ask(`${notice} Shall the time away be counted from the present date on?`)) {
+      if (away < -YEAR && await ask(`${notice} Shall the time away be counted from the present date on?`, 'Count anew', 'Leave the clock')) {
         this.until = now;
         notice = null;
       }
@@ -109,7 +159,10 @@ export class Clock {
     return notice;
   }
 
-  /** The text that says so of the image. False where it can't be written: the clock stands still then. */
+  /**
+   * The text that says so of the image. False where it can't be written: the clock stands still then.
+   * @param {ClockLine[]} lines
+   */
   write(lines) {
     try {
       this.place.write(lines.map((line) => `${line.count} ${line.until}`).join('\n'));
@@ -120,7 +173,10 @@ export class Clock {
     }
   }
 
-  /** How many seconds have passed, which the next input of a game of so many is to give, once this is written; 0 for none. */
+  /**
+   * How many seconds have passed, which the next input of a game of so many is to give, once this is written; 0 for none.
+   * @param {bigint} count
+   */
   claim(count) {
     if (this.isStill) {
       return 0;
@@ -136,12 +192,18 @@ export class Clock {
     this.written = this.claimed;
   }
 
-  /** The game goes back to a state whose clock had been given until then: the seconds since are given again, in front of the next save. */
+  /**
+   * The game goes back to a state whose clock had been given until then: the seconds since are given again, in front of the next save.
+   * @param {number} until
+   */
   goBack(until) {
     this.until = until;
   }
 
-  /** So many inputs are saved: an older copy can be told from the game. */
+  /**
+   * So many inputs are saved: an older copy can be told from the game.
+   * @param {bigint} count
+   */
   saved(count) {
     if (!this.isStill && count > this.written.count && this.written.until === this.until && this.write([{ count, until: this.until }])) {
       this.written = { count, until: this.until };

@@ -11,7 +11,10 @@ const LEAST_WRITES = 2;
 const FREE = 10;
 const NAME = 'trial';
 
-/** Writes and flushes a sector some times: whether the flushes cost nothing beside the writes, so that they bring nothing to any disk. */
+/**
+ * Writes and flushes a sector some times: whether the flushes cost nothing beside the writes, so that they bring nothing to any disk.
+ * @param {FileSystemSyncAccessHandle} handle
+ */
 function flushesAreFree(handle) {
   const sector = new Uint8Array(SECTOR);
   for (let round = 0; round < ROUNDS; round += 1) {
@@ -40,7 +43,7 @@ export async function keepsNothing() {
   if (await navigator.storage.persisted()) {
     return false;
   }
-  const { quota } = await navigator.storage.estimate();
+  const { quota = Infinity } = await navigator.storage.estimate();
   if (quota < SMALL_QUOTA) {
     return true;
   }

@@ -1,39 +1,66 @@
-// What is held: keys of the picture, gamepads and the touch buttons.
+// What keys and a gamepad's buttons do, and how that is changed: data and arithmetic alone.
 
 export const BUTTONS = ['Right', 'Left', 'Up', 'Down', 'A', 'B', 'Select', 'Start'];
+/** What is done for as long as a key is held. */
+const HELD = [...BUTTONS, 'Fast', 'Rewind'];
 
-/** What each key does, by KeyboardEvent.code, with its name and what is said of it. Tab moves the focus, as on any page. */
-export const KEYS = [
-  ['ArrowRight', 'Right', 'right', 'right'],
-  ['ArrowLeft', 'Left', 'left', 'left'],
-  ['ArrowUp', 'Up', 'up', 'up'],
-  ['ArrowDown', 'Down', 'down', 'down'],
-  ['KeyX', 'A', 'X', 'A'],
-  ['KeyZ', 'B', 'Z', 'B'],
-  ['Backspace', 'Select', 'Backspace', 'Select'],
-  ['Enter', 'Start', 'Enter', 'Start'],
-  ['KeyF', 'Fast', 'F', 'while it is held: as fast as it goes'],
-  ['KeyR', 'Rewind', 'R', 'while it is held: back, by a minute at most'],
-  ['KeyP', 'Pause', 'P', 'pause, and on'],
-  ['KeyS', 'Picture', 'S', 'a picture, as PNG'],
-  ['F1', 'Keys', 'F1', 'these keys'],
-  ['F2', 'Palette', 'F2', 'the next palette'],
-  ['F5', 'Keep slot', 'F5', 'keeps the game in its slot'],
-  ['F9', 'Go back', 'F9', 'goes back to the slot'],
-  ['F11', 'Full screen', 'F11', 'full screen, and back'],
-  ['Escape', 'Leave', 'Escape', 'pauses, and leaves the picture'],
+/**
+ * @typedef {{ action: string, means: string, key: string, pad: number | null }} Row
+ */
+
+/**
+ * Each action with its key (KeyboardEvent.code, the place of a key whatever is printed on it) and its button of a gamepad in the
+ * standard layout; A and B as they lie on a Game Boy. Tab moves the focus, as on any page.
+ * @type {Row[]}
+ */
+export const ROWS = [
+  { action: 'Up', means: 'Up', key: 'ArrowUp', pad: 12 },
+  { action: 'Down', means: 'Down', key: 'ArrowDown', pad: 13 },
+  { action: 'Left', means: 'Left', key: 'ArrowLeft', pad: 14 },
+  { action: 'Right', means: 'Right', key: 'ArrowRight', pad: 15 },
+  { action: 'A', means: 'A', key: 'KeyX', pad: 1 },
+  { action: 'B', means: 'B', key: 'KeyZ', pad: 0 },
+  { action: 'Start', means: 'Start', key: 'Enter', pad: 9 },
+  { action: 'Select', means: 'Select', key: 'Backspace', pad: 8 },
+  { action: 'Rewind', means: 'Rewind, while held', key: 'KeyR', pad: 6 },
+  { action: 'Fast', means: 'Fast, while held', key: 'KeyF', pad: 7 },
+  { action: 'Stay fast', means: 'Fast, on and off', key: 'KeyG', pad: 5 },
+  { action: 'Pause', means: 'Pause, and go on', key: 'KeyP', pad: 11 },
+  { action: 'Menu', means: 'Menu', key: 'Escape', pad: 4 },
+  { action: 'Save state', means: 'Save state 1', key: 'F5', pad: null },
+  { action: 'Load state', means: 'Load state 1', key: 'F9', pad: null },
+  { action: 'States', means: 'Save states', key: 'F7', pad: null },
+  { action: 'Timeline', means: 'Timeline', key: 'KeyT', pad: null },
+  { action: 'Full screen', means: 'Full screen', key: 'F11', pad: null },
+  { action: 'Palette', means: 'Next palette', key: 'F2', pad: null },
+  { action: 'Screenshot', means: 'Screenshot', key: 'KeyS', pad: null },
+  { action: 'Keys', means: 'Keys and gamepad', key: 'F1', pad: null },
 ];
-const ACTIONS = new Map([...KEYS.map(([code, action]) => [code, action]), ['NumpadEnter', 'Start']]);
-// a gamepad's buttons in the standard layout, for bits 0 to 7; A and B as they lie on a Game Boy
-const PAD = [15, 14, 12, 13, 1, 0, 8, 9];
-// the triggers
-const PAD_FAST = 7;
-const PAD_REWIND = 6;
+
+export const ACTIONS = ROWS.map(({ action }) => action);
+// keys that can't be given away: the focus moves by Tab, and Escape has to lead out
+const FIXED = ['Tab', 'Escape'];
 const STICK = 0.49;
 
-const bitOf = (name) => (BUTTONS.includes(name) ? 1 << BUTTONS.indexOf(name) : 0);
+/** @typedef {Record<string, string>} Keys of each action its key, '' where it has none */
+/** @typedef {Record<string, number | null>} Pad of each action its button of a gamepad */
 
-/** The buttons as a byte that a list of names stands for, as `['A', 'Up']`. */
+/** @returns {Keys} */
+export const usualKeys = () => Object.fromEntries(ROWS.map(({ action, key }) => [action, key]));
+
+/** @returns {Pad} */
+export const usualPad = () => Object.fromEntries(ROWS.map(({ action, pad }) => [action, pad]));
+
+/** @param {string} action */
+export const isHeld = (action) => HELD.includes(action);
+
+/** @param {string | null} name */
+export const bitOf = (name) => (name !== null && BUTTONS.includes(name) ? 1 << BUTTONS.indexOf(name) : 0);
+
+/**
+ * The buttons as a byte that a list of names stands for, as `['A', 'Up']`.
+ * @param {string[]} names
+ */
 export function byteOf(names) {
   return names.reduce((byte, name) => {
     if (!BUTTONS.includes(name)) {
@@ -43,113 +70,106 @@ export function byteOf(names) {
   }, 0);
 }
 
-export class Held {
-  /** `rewind` is the button that rewinds while it is held; `act` is called with what else a key does. */
-  constructor(picture, pad, rewind, act) {
-    this.keys = new Set();
-    this.touches = new Map();
-    // what was pressed since the last look, also where it is up again
-    this.taken = 0;
-    this.isBackTaken = false;
-    this.isBackHeld = false;
-    this.pad = pad;
-    picture.addEventListener('keydown', (event) => this.keyDown(event, act));
-    picture.addEventListener('keyup', (event) => this.keys.delete(ACTIONS.get(event.code)));
-    picture.addEventListener('blur', () => this.keys.clear());
-    for (const kind of ['pointerdown', 'pointermove', 'pointerup', 'pointercancel']) {
-      pad.addEventListener(kind, (event) => this.touch(event));
-    }
-    for (const kind of ['pointerdown', 'pointerup', 'pointercancel', 'lostpointercapture']) {
-      rewind.addEventListener(kind, (event) => this.holdBack(event, rewind));
-    }
-    for (const one of [pad, rewind]) {
-      one.addEventListener('contextmenu', (event) => event.preventDefault());
-    }
-  }
+/**
+ * What a key does; null for nothing. The second Enter is as the first, where it has nothing else to do.
+ * @param {Keys} keys
+ * @param {string} code
+ * @returns {string | null}
+ */
+export function actionOf(keys, code) {
+  const found = ACTIONS.find((action) => keys[action] === code);
+  return found ?? (code === 'NumpadEnter' ? actionOf(keys, 'Enter') : null);
+}
 
-  holdBack(event, rewind) {
-    this.isBackHeld = event.type === 'pointerdown' && event.button === 0;
-    if (this.isBackHeld) {
-      this.isBackTaken = true;
-      rewind.setPointerCapture(event.pointerId);
-    }
+/**
+ * The keys once an action has this one: who had it has none. Null where the key can't be given.
+ * @param {Keys} keys
+ * @param {string} action
+ * @param {string} code
+ * @returns {Keys | null}
+ */
+export function withKey(keys, action, code) {
+  if (code === '' || FIXED.includes(code) || keys[action] === undefined || FIXED.includes(keys[action] ?? '')) {
+    return null;
   }
+  const others = Object.entries(keys).map(([name, has]) => [name, has === code ? '' : has]);
+  return { ...Object.fromEntries(others), [action]: code };
+}
 
-  keyDown(event, act) {
-    const action = ACTIONS.get(event.code);
-    if (!action || event.ctrlKey || event.altKey || event.metaKey) {
-      return;
-    }
-    event.preventDefault();
-    if (event.repeat) {
-      return;
-    }
-    if (BUTTONS.includes(action) || action === 'Fast' || action === 'Rewind') {
-      this.keys.add(action);
-      this.taken |= bitOf(action);
-      this.isBackTaken ||= action === 'Rewind';
-    } else {
-      act(action);
-    }
-  }
+/**
+ * @param {Pad} pad
+ * @param {string} action
+ * @param {number} button
+ * @returns {Pad}
+ */
+export function withButton(pad, action, button) {
+  const others = Object.entries(pad).map(([name, has]) => [name, has === button ? null : has]);
+  return { ...Object.fromEntries(others), [action]: button };
+}
 
-  touch(event) {
-    event.preventDefault();
-    if (event.type === 'pointerup' || event.type === 'pointercancel') {
-      this.touches.delete(event.pointerId);
-    } else if (event.type === 'pointerdown' || this.touches.has(event.pointerId)) {
-      // a finger that slides from one button to another presses that one
-      if (event.type === 'pointerdown') {
-        this.pad.setPointerCapture(event.pointerId);
-      }
-      const name = document.elementFromPoint(event.clientX, event.clientY)?.closest?.('[data-button]')?.dataset.button ?? null;
-      this.touches.set(event.pointerId, name);
-      this.taken |= bitOf(name);
-    }
-    const held = new Set(this.touches.values());
-    for (const button of this.pad.querySelectorAll('[data-button]')) {
-      button.classList.toggle('held', held.has(button.dataset.button));
-    }
+/**
+ * Keys or buttons as they were stored, those that are not there as usual. What is no such text is passed over.
+ * @template {string | number | null} T
+ * @param {string | null} text
+ * @param {Record<string, T>} usual
+ * @param {(value: unknown) => boolean} isRight
+ * @returns {Record<string, T>}
+ */
+export function stored(text, usual, isRight) {
+  try {
+    const found = JSON.parse(text ?? '{}');
+    const read = Object.fromEntries(ACTIONS.filter((action) => isRight(found[action])).map((action) => [action, found[action]]));
+    // an action that this version has and the stored ones have not may have a key that was given to another
+    const taken = Object.values(read);
+    const rest = Object.entries(usual).filter(([action]) => !(action in read));
+    const free = rest.map(([action, value]) => [action, value !== null && taken.includes(value) ? blank(value) : value]);
+    return { ...Object.fromEntries(free), ...read };
+  } catch {
+    return usual;
   }
+}
 
-  gamepads() {
-    let held = 0;
-    let isFast = false;
-    let isBack = false;
-    for (const pad of navigator.getGamepads?.() ?? []) {
-      if (pad?.mapping === 'standard') {
-        PAD.forEach((button, bit) => { held |= Number(pad.buttons[button]?.pressed ?? false) << bit; });
-        const [across, down] = pad.axes;
-        held |= (across > STICK) | ((across < -STICK) << 1) | ((down < -STICK) << 2) | ((down > STICK) << 3);
-        isFast ||= pad.buttons[PAD_FAST]?.pressed ?? false;
-        isBack ||= pad.buttons[PAD_REWIND]?.pressed ?? false;
-      }
-    }
-    return { held, isFast, isBack };
-  }
+/** @param {string | number} value */
+const blank = (value) => (typeof value === 'string' ? '' : null);
 
-  /** Whether the game is to be rewound. */
-  isBack() {
-    return this.isBackHeld || this.isBackTaken || this.keys.has('Rewind') || this.gamepads().isBack;
-  }
+const NAMES = new Map([
+  ['ArrowUp', '↑'], ['ArrowDown', '↓'], ['ArrowLeft', '←'], ['ArrowRight', '→'], ['Escape', 'Esc'], ['Space', 'Space'],
+  ['ShiftLeft', 'Left Shift'], ['ShiftRight', 'Right Shift'], ['ControlLeft', 'Left Ctrl'], ['ControlRight', 'Right Ctrl'],
+  ['AltLeft', 'Alt'], ['AltRight', 'Alt Gr'],
+]);
 
-  /** The buttons that are held or were pressed since the last look, and whether the game is to run fast, or to be rewound. */
-  look() {
-    const isBack = this.isBack();
-    this.isBackTaken = false;
-    const { held, isFast } = this.gamepads();
-    const names = [...this.keys, ...this.touches.values()];
-    const all = names.reduce((byte, name) => byte | bitOf(name), held | this.taken);
-    this.taken = 0;
-    return { held: all, isFast: isFast || names.includes('Fast'), isBack };
+/**
+ * What a key is called: by what is printed on it, where the browser tells, else by its place.
+ * @param {string} code
+ * @param {ReadonlyMap<string, string> | null} printed
+ */
+export function nameOfKey(code, printed) {
+  if (code === '') {
+    return 'none';
   }
+  const named = NAMES.get(code) ?? printed?.get(code) ?? code.replace(/^(Key|Digit)/, '').replace(/^Numpad/, 'Keypad ');
+  return named.replace(/^[a-zà-ÿ]$/u, (letter) => letter.toUpperCase());
+}
 
-  /** Nothing is held: the game was left. */
-  clear() {
-    this.keys.clear();
-    this.touches.clear();
-    this.taken = 0;
-    this.isBackTaken = false;
-    this.isBackHeld = false;
-  }
+const PAD_NAMES = [
+  'lower face button', 'right face button', 'left face button', 'upper face button', 'left shoulder', 'right shoulder',
+  'left trigger', 'right trigger', 'Select', 'Start', 'left stick', 'right stick', 'pad up', 'pad down', 'pad left', 'pad right', 'Home',
+];
+
+/** @param {number | null} button */
+export const nameOfButton = (button) => (button === null ? 'none' : PAD_NAMES[button] ?? `button ${button + 1}`);
+
+/**
+ * What is held on a gamepad: the actions of its buttons, and of its stick.
+ * @param {Pad} pad
+ * @param {boolean[]} pressed
+ * @param {readonly number[]} axes
+ * @returns {string[]}
+ */
+export function actionsOf(pad, pressed, axes) {
+  const [across = 0, down = 0] = axes;
+  /** @type {[boolean, string][]} */
+  const stick = [[across > STICK, 'Right'], [across < -STICK, 'Left'], [down < -STICK, 'Up'], [down > STICK, 'Down']];
+  const buttons = ACTIONS.filter((action) => pressed[pad[action] ?? -1]);
+  return [...buttons, ...stick.filter(([isHere]) => isHere).map(([, name]) => name)];
 }

@@ -1,33 +1,79 @@
-// The calls of gbkeep.h, over gbkeep.wasm. An address of a 64-bit memory is a BigInt.
+// The calls of gbkeep.h, over gbkeep.wasm. An address has 64 bits, and is a BigInt; those of the memory are below 4 GiB.
 import { Refused } from './refusals.js';
 
+/**
+ * @typedef {object} Calls
+ * @property {WebAssembly.Memory} memory
+ * @property {(length: bigint) => bigint} malloc
+ * @property {(at: bigint) => void} free
+ * @property {(rom: bigint, length: bigint, out: bigint) => number} gbkeep_session_sectors
+ * @property {(rom: bigint, length: bigint, sectors: number, out: bigint) => number} gbkeep_session_begin
+ * @property {(rom: bigint, length: bigint, battery: bigint, more: bigint, sectors: number, out: bigint) => number} gbkeep_session_import
+ * @property {(rom: bigint, length: bigint, image: bigint, more: bigint, out: bigint) => number} gbkeep_session_resume
+ * @property {(session: bigint) => void} gbkeep_session_free
+ * @property {(session: bigint, buttons: number, count: number) => number} gbkeep_session_frames
+ * @property {(session: bigint, seconds: number) => number} gbkeep_session_seconds
+ * @property {(session: bigint) => number} gbkeep_session_power
+ * @property {(session: bigint, state: bigint, length: bigint) => number} gbkeep_session_restore
+ * @property {(session: bigint, saved: bigint) => number} gbkeep_session_save
+ * @property {(session: bigint, call: bigint) => void} gbkeep_session_next_call
+ * @property {(session: bigint, shades: bigint, length: bigint) => number} gbkeep_session_picture
+ * @property {(session: bigint) => bigint} gbkeep_session_state_length
+ * @property {(session: bigint, bytes: bigint, length: bigint) => number} gbkeep_session_state
+ * @property {(session: bigint) => bigint} gbkeep_session_battery_length
+ * @property {(session: bigint, bytes: bigint, length: bigint) => number} gbkeep_session_battery
+ * @property {(session: bigint) => bigint} gbkeep_session_count
+ */
+
+/** The module's file beside this one, packed by gzip. */
+export const MODULE = 'gbkeep.wasm.gz';
 export const PICTURE_LENGTH = 160 * 144;
 export const SECTOR = 512;
 const DONE = 0;
 const NO_MEMORY = 1;
 const WRITE = 1;
 const SYNC = 2;
+// how what gzip has packed begins
+const GZIP = 0x1f;
 // a call: kind, sector, bytes
 const CALL_LENGTH = 8 + SECTOR;
 // what a state has in front of the snapshot
 const HEADER_LENGTH = 40;
 
-// a module of one 64-bit memory and nothing else
-const SMALLEST = new Uint8Array([0, 0x61, 0x73, 0x6d, 1, 0, 0, 0, 5, 3, 1, 4, 1]);
+// a module with a function of vectors: i8x16.popcnt of a splat of 0
+const OF_VECTORS = new Uint8Array([
+  0, 0x61, 0x73, 0x6d, 1, 0, 0, 0, 1, 5, 1, 0x60, 0, 1, 0x7b, 3, 2, 1, 0, 10, 10, 1, 8, 0, 0x41, 0, 0xfd, 15, 0xfd, 98, 0x0b,
+]);
 
-/** Whether this browser has what the module needs. */
-export function hasMemories() {
-  return typeof WebAssembly === 'object' && WebAssembly.validate(SMALLEST);
+/** Whether this browser has what the module needs: WebAssembly with vectors (SIMD), and BigInt for its numbers of 64 bits. */
+export function canRun() {
+  return typeof WebAssembly === 'object' && typeof BigInt === 'function' && WebAssembly.validate(OF_VECTORS);
 }
 
+/** A module's bytes: unpacked, where they are packed by gzip and the server did not unpack them.
+ * @param {Uint8Array} bytes */
+export async function unpacked(bytes) {
+  if (bytes[0] !== GZIP) {
+    return bytes;
+  }
+  const whole = new Blob([bytes]).stream().pipeThrough(new DecompressionStream('gzip'));
+  return new Uint8Array(await new Response(whole).arrayBuffer());
+}
+
+/** The memory of the library, and its calls. */
 export class Library {
+  /** @type {Calls} */
+  calls;
+
+  /** @param {WebAssembly.Exports} exports */
   constructor(exports) {
-    this.calls = exports;
+    this.calls = /** @type {Calls} */ (/** @type {unknown} */ (exports));
   }
 
-  /** The module at this address, compiled. */
+  /** The module at this address, compiled.
+   * @param {URL | string} url */
   static async compiled(url) {
-    if (!hasMemories()) {
+    if (!canRun()) {
       throw Refused.own('memory');
     }
     try {
@@ -35,13 +81,14 @@ export class Library {
       if (!answer.ok) {
         throw Refused.own('load');
       }
-      return await WebAssembly.compile(await answer.arrayBuffer());
+      return await WebAssembly.compile(await unpacked(new Uint8Array(await answer.arrayBuffer())));
     } catch {
       throw Refused.own('load');
     }
   }
 
-  /** A library of its own, of a compiled module. */
+  /** A library of its own, of a compiled module.
+   * @param {WebAssembly.Module} module */
   static async of(module) {
     try {
       return new Library((await WebAssembly.instantiate(module, {})).exports);
@@ -50,15 +97,19 @@ export class Library {
     }
   }
 
+  /** @param {URL | string} url */
   static async load(url) {
     return Library.of(await Library.compiled(url));
   }
 
-  /** So many bytes of the memory. They are moved where it grows: take them anew after each call that takes memory. */
+  /** So many bytes of the memory. They are moved where it grows: take them anew after each call that takes memory.
+   * @param {bigint} at
+   * @param {number} length */
   bytes(at, length) {
     return new Uint8Array(this.calls.memory.buffer, Number(at), length);
   }
 
+  /** @param {number} length */
   take(length) {
     const at = this.calls.malloc(BigInt(length));
     if (at === 0n) {
@@ -67,19 +118,26 @@ export class Library {
     return at;
   }
 
+  /** @param {bigint} at */
   give(at) {
     this.calls.free(at);
   }
 
-  /** Runs something with places in the memory, each of as many bytes as given or with a copy of the bytes given, and gives the places back. */
+  /** Runs something with places in the memory, each of as many bytes as given or with a copy of the bytes given, and gives the places back.
+   * @template T
+   * @param {(number | Uint8Array)[]} places
+   * @param {(...places: bigint[]) => T} run
+   * @returns {T} */
   with(places, run) {
+    /** @type {bigint[]} */
     const taken = [];
     try {
       for (const place of places) {
         const length = typeof place === 'number' ? place : place.length;
-        taken.push(this.take(Math.max(length, 1)));
+        const at = this.take(Math.max(length, 1));
+        taken.push(at);
         if (typeof place !== 'number') {
-          this.bytes(taken.at(-1), length).set(place);
+          this.bytes(at, length).set(place);
         }
       }
       return run(...taken);
@@ -88,22 +146,28 @@ export class Library {
     }
   }
 
+  /** @param {bigint} at */
   word(at) {
     return new DataView(this.calls.memory.buffer).getUint32(Number(at), true);
   }
 
+  /** @param {bigint} at */
   long(at) {
     return new DataView(this.calls.memory.buffer).getBigUint64(Number(at), true);
   }
 }
 
+/** @param {number} code */
 function check(code) {
   if (code !== DONE) {
     throw Refused.of(code);
   }
 }
 
-/** How many sectors a game of this ROM needs. */
+/** How many sectors a game of this ROM needs.
+ * @param {Library} library
+ * @param {Uint8Array} rom
+ * @returns {number} */
 export function sectorsNeeded(library, rom) {
   return library.with([rom, 4], (at, out) => {
     check(library.calls.gbkeep_session_sectors(at, BigInt(rom.length), out));
@@ -113,6 +177,25 @@ export function sectorsNeeded(library, rom) {
 
 /** A session: a machine, and inputs whose saves are handed out as calls for a disk. */
 export class Session {
+  /** @type {Library} */
+  library;
+
+  /** @type {bigint} */
+  at;
+
+  /** @type {number} */
+  stateLength;
+
+  /** @type {bigint} */
+  call;
+
+  /** @type {bigint} */
+  picturePlace;
+
+  /**
+   * @param {Library} library
+   * @param {bigint} at
+   */
   constructor(library, at) {
     this.library = library;
     this.at = at;
@@ -121,7 +204,10 @@ export class Session {
     this.picturePlace = library.take(PICTURE_LENGTH);
   }
 
-  /** A new game on a disk of so many sectors of zeros. */
+  /** A new game on a disk of so many sectors of zeros.
+   * @param {Library} library
+   * @param {Uint8Array} rom
+   * @param {number} sectors */
   static begin(library, rom, sectors) {
     return library.with([rom, 8], (at, out) => {
       check(library.calls.gbkeep_session_begin(at, BigInt(rom.length), sectors, out));
@@ -129,7 +215,11 @@ export class Session {
     });
   }
 
-  /** A new game that begins with a battery file, on a disk of so many sectors of zeros. */
+  /** A new game that begins with a battery file, on a disk of so many sectors of zeros.
+   * @param {Library} library
+   * @param {Uint8Array} rom
+   * @param {Uint8Array} battery
+   * @param {number} sectors */
   static import(library, rom, battery, sectors) {
     return library.with([rom, battery, 8], (at, file, out) => {
       check(library.calls.gbkeep_session_import(at, BigInt(rom.length), file, BigInt(battery.length), sectors, out));
@@ -137,7 +227,10 @@ export class Session {
     });
   }
 
-  /** The game that an image of a disk holds. */
+  /** The game that an image of a disk holds.
+   * @param {Library} library
+   * @param {Uint8Array} rom
+   * @param {Uint8Array} image */
   static resume(library, rom, image) {
     return library.with([rom, image, 8], (at, disk, out) => {
       check(library.calls.gbkeep_session_resume(at, BigInt(rom.length), disk, BigInt(image.length), out));
@@ -151,10 +244,15 @@ export class Session {
     this.library.give(this.picturePlace);
   }
 
+  /**
+   * @param {number} buttons
+   * @param {number} count
+   */
   frames(buttons, count) {
     check(this.library.calls.gbkeep_session_frames(this.at, buttons, count));
   }
 
+  /** @param {number} seconds */
   seconds(seconds) {
     check(this.library.calls.gbkeep_session_seconds(this.at, seconds));
   }
@@ -164,7 +262,8 @@ export class Session {
     check(this.library.calls.gbkeep_session_power(this.at));
   }
 
-  /** Goes on with the machine of a state, as one input. Bytes that are no state of this ROM are refused, and nothing changes. */
+  /** Goes on with the machine of a state, as one input. Bytes that are no state of this ROM are refused, and nothing changes.
+   * @param {Uint8Array} bytes */
   restore(bytes) {
     this.library.with([bytes], (at) => check(this.library.calls.gbkeep_session_restore(this.at, at, BigInt(bytes.length))));
   }
@@ -214,7 +313,8 @@ export class Session {
     });
   }
 
-  /** Copies the state into bytes of its length. */
+  /** Copies the state into bytes of its length.
+   * @param {Uint8Array} bytes */
   stateInto(bytes) {
     this.library.with([this.stateLength], (at) => {
       check(this.library.calls.gbkeep_session_state(this.at, at, BigInt(this.stateLength)));

@@ -6,7 +6,11 @@ const FRAMES_BETWEEN = 6;
 const MOST_STATES = 597;
 const MOST_BYTES = 64 << 20;
 
-/** Memory for so many states of this length, or for fewer where there is no more. */
+/**
+ * Memory for so many states of this length, or for fewer where there is no more.
+ * @param {number} states
+ * @param {number} length
+ */
 function roomFor(states, length) {
   for (let count = states; ; count = Math.floor(count / 2)) {
     try {
@@ -20,7 +24,16 @@ function roomFor(states, length) {
 }
 
 export class Past {
-  /** For states of this length. */
+  /** The place of the newest state, and how many there are. */
+  newest = -1;
+  count = 0;
+  /** How many frames were played. */
+  frame = 0;
+
+  /**
+   * For states of this length.
+   * @param {number} length
+   */
   constructor(length) {
     this.length = length;
     this.bytes = roomFor(Math.min(MOST_STATES, Math.floor(MOST_BYTES / length)), length);
@@ -28,7 +41,6 @@ export class Past {
     // of each state: the frame after which it was kept, and until when the clock had been given then
     this.frames = new Float64Array(this.room);
     this.until = new Float64Array(this.room);
-    this.clear();
   }
 
   /** Forgets all states: the game is another one. */
@@ -48,13 +60,20 @@ export class Past {
     return FRAMES_BETWEEN - this.since();
   }
 
-  /** So many frames were played: whether a state is due. */
+  /**
+   * So many frames were played: whether a state is due.
+   * @param {number} count
+   */
   played(count) {
     this.frame += count;
     return this.left() === 0;
   }
 
-  /** Keeps the state in which the game is; `write` leaves it in the bytes that it is given. */
+  /**
+   * Keeps the state in which the game is; `write` leaves it in the bytes that it is given.
+   * @param {number} until
+   * @param {(bytes: Uint8Array) => void} write
+   */
   keep(until, write) {
     const place = (this.newest + 1) % this.room;
     write(this.at(place));
@@ -64,12 +83,16 @@ export class Past {
     this.count = Math.min(this.count + 1, this.room);
   }
 
+  /** @param {number} place */
   at(place) {
     return this.bytes.subarray(place * this.length, (place + 1) * this.length);
   }
 
-  /** The state that is so many states before the game, or the oldest: its place, its bytes, and until when its clock had been given. Null where the game
-   * is in the oldest. */
+  /**
+   * The state that is so many states before the game, or the oldest. Null where the game is in the oldest.
+   * @param {number} states
+   * @returns {PastState | null}
+   */
   before(states) {
     // a game that was played on from the newest state goes back to that one first
     const first = this.since() > 0 ? 1 : 0;
@@ -81,7 +104,10 @@ export class Past {
     return { place, steps, bytes: this.at(place), until: this.until[place] };
   }
 
-  /** The game is in this state: those behind it are forgotten. */
+  /**
+   * The game is in this state: those behind it are forgotten.
+   * @param {PastState} state
+   */
   goTo({ place, steps }) {
     this.newest = place;
     this.count -= steps;

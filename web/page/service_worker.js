@@ -9,12 +9,15 @@ const OURS = `gbkeep ${scope} `;
 const CACHE = `${OURS}${VERSION}`;
 const LIST = new URL('files.js', scope).href;
 
+/** @param {ArrayBuffer} bytes */
 async function sha256(bytes) {
   const digest = new Uint8Array(await crypto.subtle.digest('SHA-256', bytes));
   return [...digest].map((byte) => byte.toString(16).padStart(2, '0')).join('');
 }
 
-/** A file of this version, from the network. */
+/** A file of this version, from the network.
+ * @param {[string, string]} file
+ * @returns {Promise<[string, Response]>} */
 async function fetched([name, digest]) {
   const answer = await fetch(new Request(name, { cache: 'reload' }));
   if (!answer.ok || await sha256(await answer.clone().arrayBuffer()) !== digest) {
@@ -30,7 +33,8 @@ async function keep() {
   await Promise.all(answers.map(([name, answer]) => cache.put(name, answer)));
 }
 
-/** Whether files are of another version of this page. There are versions whose name says nothing of the place: what they keep does. */
+/** Whether files are of another version of this page. There are versions whose name says nothing of the place: what they keep does.
+ * @param {string} name */
 async function isPast(name) {
   return name.startsWith(OURS) ? name !== CACHE : name.startsWith('gbkeep-') && await (await caches.open(name)).match(scope) !== undefined;
 }
@@ -43,6 +47,7 @@ async function forgetPast() {
   }
 }
 
+/** @param {Request} request */
 async function answered(request) {
   if (request.url.split('?')[0] === LIST) {
     return new Response(`const VERSION = ${JSON.stringify(VERSION)};\nconst FILES = ${JSON.stringify(FILES)};\n`, { headers: { 'Content-Type': 'text/javascript' } });

@@ -1,4 +1,4 @@
-// Whether the files of this page are of one version: files.js, which scripts/web.py makes, has the SHA-256 of each.
+// Whether the files of this page are of one version: files.js, which scripts/page.py makes, has the SHA-256 of each.
 import { sha256 } from './digest.js';
 
 // this tab was loaded anew, and is to say so
@@ -7,11 +7,18 @@ const MIXED = 'This page was put together of two versions';
 // the page does not wait longer for a server, in milliseconds
 const PATIENCE = 5000;
 
-/** Those whose bytes are not what files.js says; `cache` says whether the browser may answer with what it has. */
+/** After so many milliseconds. (Debian's tsc does not know this call.)
+ * @type {(patience: number) => AbortSignal} */
+const late = (patience) => /** @type {any} */ (AbortSignal).timeout(patience);
+
+/** Those whose bytes are not what files.js says; `cache` says whether the browser may answer with what it has.
+ * @param {RequestCache} cache
+ * @returns {Promise<string[]>} */
 async function strangers(cache) {
-  const signal = AbortSignal.timeout(PATIENCE);
+  const signal = late(PATIENCE);
   const list = await (await fetch('files.js', { cache, signal })).text();
-  const files = JSON.parse(/^const FILES = (\{.*\});$/m.exec(list)[1]);
+  /** @type {Record<string, string>} */
+  const files = JSON.parse(/^const FILES = (\{.*\});$/m.exec(list)?.[1] ?? '');
   const looked = await Promise.all(Object.entries(files).map(async ([name, digest]) => {
     const answer = await fetch(name, { cache, signal });
     return answer.ok && await sha256(await answer.arrayBuffer()) === digest ? [] : [name];

@@ -10,11 +10,10 @@ use Rattle.session.specs.declared.error.SessionError.{SessionError}
 use Rattle.session.specs.declared.error.SessionError.TheVariants as session
 use Rattle.sector_device.specs.declared.device.SectorDevice.{Ghosts}
 use Rattle.session.specs.declared.session.Session.{Session}
-use Rattle.embedding.specs.declared.host_device.Call.{Call}
 use Rattle.embedding.specs.declared.host_device.HostDevice.{HostDevice}
 use Rattle.embedding.specs.declared.error.GameError.{GameError}
 use Rattle.embedding.specs.declared.error.GameError.TheVariants as game
-use Rattle.embedding.specs.Games.{IsBatteryCause, IsBeginCause, IsImportCause, IsSaveCause, IsTakeUpCause}
+use Rattle.embedding.specs.Games.{IsBatteryCause, IsBeginCause, IsCartCause, IsImportCause, IsPowerAnswer, IsSaveCause, IsTakeUpCause}
 use Rattle.embedding.specs.Orders.{IsNewCause, IsRestoreCause}
 use Rattle.embedding.specs.States.{IsStateAnswer}
 use Rattle.embedding.specs.declared.error.ConsoleError.{ConsoleError}
@@ -113,6 +112,9 @@ pub record HasGameCode (code : ℕ) (Cause : GameError → Type 0) : Type 0 wher
   pub cause : Cause why
   pub is : code ≡ game_code why
 
+abbrev pub IsNeededCode : (rom : List ℕ) → ℕ → Type 0
+IsNeededCode rom code = (code ≡ done) ⊎ HasGameCode code (IsCartCause rom)
+
 abbrev pub IsBegunCode : (rom : List ℕ) → (sectors : ℕ) → ℕ → Type 0
 IsBegunCode rom sectors code = (code ≡ done) ⊎ HasGameCode code (IsBeginCause rom sectors)
 
@@ -122,14 +124,27 @@ IsImportedCode rom battery sectors code = (code ≡ done) ⊎ HasGameCode code (
 abbrev pub IsTakenUpCode : (rom image : List ℕ) → ℕ → Type 0
 IsTakenUpCode rom image code = (code ≡ done) ⊎ HasGameCode code (IsTakeUpCause rom image)
 
-abbrev pub IsSaveCode : {disk : Ghosts HostDevice} → (old new : Session HostDevice disk) → (noted : List Call) → ℕ → Type 0
-IsSaveCode old new noted code = (code ≡ done) ⊎ HasGameCode code (IsSaveCause old new noted)
+-- the same of a save
+pub record HasSaveCode (code : ℕ) (Cause : SessionError → Type 0) : Type 0 where
+  pub why : SessionError
+  pub cause : Cause why
+  pub is : code ≡ session_code why
+
+abbrev pub IsSaveCode : {disk : Ghosts HostDevice} → (old new : Session HostDevice disk) → ℕ → Type 0
+IsSaveCode old new code = (code ≡ done) ⊎ HasSaveCode code (IsSaveCause old new)
 
 abbrev pub IsBatteryCode : (rom : List ℕ) → ℕ → Type 0
 IsBatteryCode rom code = (code ≡ done) ⊎ HasGameCode code (IsBatteryCause rom)
 
--- the code of what a session answers to a state, where it would answer an input so
-pub record IsStateCode (rom bytes : List ℕ) (taken : Result Unit SessionError) (code : ℕ) : Type 0 where
+-- the code of such an answer of a session
+pub record HasAnswerCode (code : ℕ) (Answer : Result Unit SessionError → Type 0) : Type 0 where
   pub answer : Result Unit SessionError
-  pub given : IsStateAnswer rom bytes taken answer
+  pub given : Answer answer
   pub is : code ≡ answer_code answer
+
+-- of that to the power switch, or to a state, where it would answer an input so
+abbrev pub IsPowerCode : (taken : Result Unit SessionError) → ℕ → Type 0
+IsPowerCode taken code = HasAnswerCode code (IsPowerAnswer taken)
+
+abbrev pub IsStateCode : (rom bytes : List ℕ) → (taken : Result Unit SessionError) → ℕ → Type 0
+IsStateCode rom bytes taken code = HasAnswerCode code (IsStateAnswer rom bytes taken)

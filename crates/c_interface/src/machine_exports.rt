@@ -13,12 +13,13 @@ use crate::machine_handle::MachineHandle;
 use embedding::Console;
 use std::alloc::Global;
 
-/// Makes the machine of an image at power-on. A refusal leaves no handle in `out`.
+/// Makes the machine of an image at power-on. A refusal leaves `out` as it was.
 #[unsafe(no_mangle)]
 pub extern "C" fn gbkeep_make_machine(alloc: Global, rom: &[u8], out: &mut MachineHandle) -> u32
     ensures held { result ≡ done → out.new.held ≡ true }
     ensures cartridge { result ≡ done → out.new.value.cartridge ≡ rom.now }
     ensures machine { result ≡ done → out.new.value.machine ≡ start rom.now }
+    ensures refused { ¬ (result ≡ done) → out.new ≡ out.old }
     ensures code { IsMadeCode rom.now result }
 {
     let console = match Console::new(alloc, rom) {

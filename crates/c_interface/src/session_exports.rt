@@ -1,23 +1,25 @@
 //! The exports of a session.
 
-ghost use Rattle.std.specs.Prelude.{◌≡◌, ◌++◌, ◌∷◌, ◌+◌, ◌⊎◌, [], length, take, slice_get, Some, None, true, false};
+ghost use Rattle.std.specs.Prelude.{◌≡◌, ◌++◌, ◌∷◌, ◌+◌, ◌*◌, ◌⊎◌, [], length, Some, None, true, false};
 ghost use Rattle.cartridge.specs.Header.{has_battery, ram_length_of};
 ghost use Rattle.machine.specs.Machine.{Frame, Seconds, Power, State, start, applied, picture_rows};
 ghost use Rattle.snapshot.specs.Encoding.{snapshot_length};
 ghost use Rattle.state_header.specs.States.{state_length, state_of};
 ghost use Rattle.log_format.specs.Content.{content, need};
+ghost use Rattle.sector_device.specs.DiskState.{Follows, HasHanded};
 ghost use Rattle.sector_device.specs.Runs.{HoldsSince};
-ghost use Rattle.session.specs.Accessors.{device_of, machine_of, rom_of, pending_of, acknowledged_of, is_broken, IsUnchanged};
+ghost use Rattle.session.specs.Accessors.{device_of, machine_of, rom_of, pending_of, acknowledged_of, is_broken, IsUnchanged, KeepsAllBut};
 ghost use Rattle.session.specs.Calls.{input_answer};
-ghost use Rattle.session.specs.Stands.{IsAtRest, stands, StandsBetween};
+ghost use Rattle.session.specs.Stands.{IsAtRest, StandsAtCount, StandsBetween, stands};
 ghost use Rattle.session.specs.Inputs.{can_be_logged, entry_of, inputs_of};
 ghost use Rattle.battery_files.specs.Battery.{battery_length, battery_of};
 ghost use Rattle.battery_files.specs.Importing.{start_with};
 ghost use Rattle.embedding.specs.Orders.{shades_of};
-ghost use Rattle.embedding.specs.Games.{IsFrom, IsTaken};
-ghost use Rattle.embedding.specs.HostDevices.{calls_of, host_disk};
+ghost use Rattle.embedding.specs.Games.{IsFrom, IsTaken, KeepsInputs};
+ghost use Rattle.embedding.specs.Calls.{image_calls};
+ghost use Rattle.embedding.specs.HostDevices.{HasHandedOut, calls_of, count_of, handed_of, host_disk};
 ghost use Rattle.embedding.specs.declared.host_device.Call.TheVariants.{Write, Sync};
-ghost use Rattle.c_interface.specs.Codes.{done, no_call, a_write, a_sync, IsBatteryCode, IsBegunCode, IsImportedCode, IsSaveCode, IsStateCode, IsTakenUpCode};
+ghost use Rattle.c_interface.specs.Codes.{done, answer_code, no_call, a_write, a_sync, IsBatteryCode, IsBegunCode, IsImportedCode, IsNeededCode, IsPowerCode, IsSaveCode, IsStateCode, IsTakenUpCode};
 
 use crate::codes::{DONE, NO_MEMORY, game_code, session_code};
 use crate::session_handle::SessionHandle;
@@ -52,7 +54,8 @@ fn written(call: Call, sector: &mut u64, bytes: &mut [u8]) -> u32
 /// Tells how many sectors a game of this image needs.
 #[unsafe(no_mangle)]
 pub extern "C" fn gbkeep_needed_session(alloc: Global, rom: &[u8], sectors: &mut u64) -> u32
-    ensures { result ≡ done → sectors.new ≡ need (snapshot_length (ram_length_of rom.now)) }
+    ensures need { result ≡ done → sectors.new ≡ need (snapshot_length (ram_length_of rom.now)) }
+    ensures code { IsNeededCode rom.now result }
 {
     match sectors_of(alloc, rom) {
         Ok(needed) => {
@@ -63,7 +66,7 @@ pub extern "C" fn gbkeep_needed_session(alloc: Global, rom: &[u8], sectors: &mut
     }
 }
 
-/// Begins a game at power-on on a device of so many zero sectors. A refusal leaves no handle in `out`.
+/// Begins a game at power-on on a device of so many zero sectors. A refusal leaves `out` as it was.
 #[unsafe(no_mangle)]
 pub extern "C" fn gbkeep_begin_session(
     alloc: Global,
@@ -79,8 +82,9 @@ pub extern "C" fn gbkeep_begin_session(
         (machine_of out.new.value.session ≡ start rom.now) × (rom_of out.new.value.session ≡ rom.now) }
     ensures rests { result ≡ done →
         IsAtRest rom.now (host_disk (device_of out.new.value.session)) 0 [] (start rom.now) }
-    ensures step { result ≡ done → out.new.value.in_step ≡ true }
-    ensures first { result ≡ done → out.new.value.handed ≡ 0 }
+    ensures sectors { result ≡ done → count_of (device_of out.new.value.session) ≡ sectors }
+    ensures first { result ≡ done → handed_of (device_of out.new.value.session) ≡ [] }
+    ensures refused { ¬ (result ≡ done) → out.new ≡ out.old }
     ensures code { IsBegunCode rom.now sectors result }
 {
     let game = match Game::begin(alloc, rom, sectors) {
@@ -94,7 +98,7 @@ pub extern "C" fn gbkeep_begin_session(
     DONE
 }
 
-/// Begins a game with the RAM and the clocks of a battery file, on a device of so many zero sectors. A refusal leaves no handle in `out`.
+/// Begins a game with the RAM and the clocks of a battery file, on a device of so many zero sectors. A refusal leaves `out` as it was.
 #[unsafe(no_mangle)]
 pub extern "C" fn gbkeep_import_session(
     alloc: Global,
@@ -112,8 +116,9 @@ pub extern "C" fn gbkeep_import_session(
     ensures rests { result ≡ done →
         IsAtRest rom.now (host_disk (device_of out.new.value.session)) 0 [] (start_with rom.now battery.now) }
     ensures taken { result ≡ done → IsTaken rom.now battery.now }
-    ensures step { result ≡ done → out.new.value.in_step ≡ true }
-    ensures first { result ≡ done → out.new.value.handed ≡ 0 }
+    ensures sectors { result ≡ done → count_of (device_of out.new.value.session) ≡ sectors }
+    ensures first { result ≡ done → handed_of (device_of out.new.value.session) ≡ [] }
+    ensures refused { ¬ (result ≡ done) → out.new ≡ out.old }
     ensures code { IsImportedCode rom.now battery.now sectors result }
 {
     let game = match Game::import(alloc, rom, battery, sectors) {
@@ -127,7 +132,7 @@ pub extern "C" fn gbkeep_import_session(
     DONE
 }
 
-/// Takes up the game that an image stands for. A refusal leaves no handle in `out`.
+/// Takes up the game that an image stands for. A refusal leaves `out` as it was.
 #[unsafe(no_mangle)]
 pub extern "C" fn gbkeep_resume_session(
     alloc: Global,
@@ -142,9 +147,12 @@ pub extern "C" fn gbkeep_resume_session(
     ensures rests { result ≡ done →
         IsAtRest rom.now (host_disk (device_of out.new.value.session)) (acknowledged_of out.new.value.session) []
         (machine_of out.new.value.session) }
-    ensures step { result ≡ done → out.new.value.in_step ≡ true }
     ensures from { result ≡ done →
         IsFrom rom.now image.now (acknowledged_of out.new.value.session) (machine_of out.new.value.session) }
+    ensures sectors { result ≡ done → 512 * count_of (device_of out.new.value.session) ≡ length image.now }
+    ensures handed { result ≡ done → handed_of (device_of out.new.value.session) ≡
+        image_calls image.now (count_of (device_of out.new.value.session)) }
+    ensures refused { ¬ (result ≡ done) → out.new ≡ out.old }
     ensures code { IsTakenUpCode rom.now image.now result }
 {
     let game = match Game::resume(alloc, rom, image) {
@@ -175,13 +183,14 @@ pub extern "C" fn gbkeep_play_session(
 ) -> u32
     requires held { session.held ≡ true }
     ensures held { out.new.held ≡ true }
+    ensures code { result ≡ answer_code (input_answer (is_broken session.value.session)
+        (length (pending_of session.value.session))
+        (acknowledged_of session.value.session + length (pending_of session.value.session))) }
     ensures machine { result ≡ done →
         machine_of out.new.value.session ≡ applied (Frame buttons) (machine_of session.value.session) }
     ensures pending { result ≡ done →
         pending_of out.new.value.session ≡ pending_of session.value.session ++ entry_of (Frame buttons) ∷ [] }
     ensures refused { ¬ (result ≡ done) → IsUnchanged session.value.session out.new.value.session }
-    ensures noted { out.new.value.noted.items ≡ session.value.noted.items }
-    ensures handed { out.new.value.handed ≡ session.value.handed }
 {
     let mut game = session.into_box();
     let code = match game.input(Input::Frame(buttons)) {
@@ -201,13 +210,14 @@ pub extern "C" fn gbkeep_wait_session(
 ) -> u32
     requires held { session.held ≡ true }
     ensures held { out.new.held ≡ true }
+    ensures code { result ≡ answer_code (input_answer (is_broken session.value.session)
+        (length (pending_of session.value.session))
+        (acknowledged_of session.value.session + length (pending_of session.value.session))) }
     ensures machine { result ≡ done →
         machine_of out.new.value.session ≡ applied (Seconds seconds) (machine_of session.value.session) }
     ensures pending { result ≡ done →
         pending_of out.new.value.session ≡ pending_of session.value.session ++ entry_of (Seconds seconds) ∷ [] }
     ensures refused { ¬ (result ≡ done) → IsUnchanged session.value.session out.new.value.session }
-    ensures noted { out.new.value.noted.items ≡ session.value.noted.items }
-    ensures handed { out.new.value.handed ≡ session.value.handed }
 {
     let mut game = session.into_box();
     let code = match game.input(Input::Seconds(seconds)) {
@@ -227,13 +237,14 @@ pub extern "C" fn gbkeep_power_session(
 ) -> u32
     requires held { session.held ≡ true }
     ensures held { out.new.held ≡ true }
+    ensures code { IsPowerCode (input_answer (is_broken session.value.session)
+        (length (pending_of session.value.session))
+        (acknowledged_of session.value.session + length (pending_of session.value.session))) result }
     ensures machine { result ≡ done →
         machine_of out.new.value.session ≡ applied Power (machine_of session.value.session) }
     ensures pending { result ≡ done →
         pending_of out.new.value.session ≡ pending_of session.value.session ++ entry_of Power ∷ [] }
     ensures refused { ¬ (result ≡ done) → IsUnchanged session.value.session out.new.value.session }
-    ensures noted { out.new.value.noted.items ≡ session.value.noted.items }
-    ensures handed { out.new.value.handed ≡ session.value.handed }
 {
     let mut game = session.into_box();
     let code = match game.power(alloc) {
@@ -261,8 +272,6 @@ pub extern "C" fn gbkeep_restore_session(
         pending_of out.new.value.session ≡
         pending_of session.value.session ++ entry_of (State (machine_of out.new.value.session)) ∷ [] }
     ensures refused { ¬ (result ≡ done) → IsUnchanged session.value.session out.new.value.session }
-    ensures noted { out.new.value.noted.items ≡ session.value.noted.items }
-    ensures handed { out.new.value.handed ≡ session.value.handed }
 {
     let mut game = session.into_box();
     let code = match game.restore(bytes) {
@@ -282,9 +291,8 @@ pub extern "C" fn gbkeep_save_session(
 ) -> u32
     requires held { session.held ≡ true }
     ensures held { out.new.held ≡ true }
-    ensures grows { take (length session.value.noted.items) out.new.value.noted.items ≡ session.value.noted.items }
-    ensures handed { out.new.value.handed ≡ session.value.handed }
-    ensures step { result ≡ done → out.new.value.noted.items ≡ calls_of (device_of out.new.value.session) }
+    ensures calls { Follows (calls_of (device_of session.value.session)) (calls_of (device_of out.new.value.session)) }
+    ensures handed { handed_of (device_of out.new.value.session) ≡ handed_of (device_of session.value.session) }
     ensures all { result ≡ done →
         (saved.new ≡ acknowledged_of session.value.session + length (pending_of session.value.session)) ×
         (acknowledged_of out.new.value.session ≡ saved.new) × (pending_of out.new.value.session ≡ []) }
@@ -300,9 +308,13 @@ pub extern "C" fn gbkeep_save_session(
           count = acknowledged_of session.value.session + length (pending_of session.value.session);
           machine = machine_of session.value.session;
         })) }
+    ensures counts { is_broken session.value.session ≡ false →
+        StandsAtCount (rom_of session.value.session) (host_disk (device_of session.value.session))
+        (acknowledged_of session.value.session) }
+    ensures inputs { KeepsInputs session.value.session out.new.value.session }
     ensures machine { (machine_of out.new.value.session ≡ machine_of session.value.session) ×
         (rom_of out.new.value.session ≡ rom_of session.value.session) }
-    ensures code { IsSaveCode session.value.session out.new.value.session session.value.noted.items result }
+    ensures code { IsSaveCode session.value.session out.new.value.session result }
 {
     let mut game = session.into_box();
     let code = match game.save() {
@@ -310,7 +322,7 @@ pub extern "C" fn gbkeep_save_session(
             *saved = all;
             DONE
         }
-        Err(why) => game_code(why),
+        Err(why) => session_code(why),
     };
     *out = SessionHandle::of(game);
     code
@@ -328,14 +340,15 @@ pub extern "C" fn gbkeep_next_session(
     requires room { length bytes.old ≡ 512 }
     ensures held { out.new.held ≡ true }
     ensures none { result ≡ no_call →
-        (slice_get session.value.noted.items session.value.handed ≡ None) ×
-        (out.new.value.handed ≡ session.value.handed) }
-    ensures write { result ≡ a_write →
-        slice_get session.value.noted.items session.value.handed ≡ Some (Write sector.new bytes.new) }
-    ensures sync { result ≡ a_sync → slice_get session.value.noted.items session.value.handed ≡ Some Sync }
-    ensures handed { ¬ (result ≡ no_call) → out.new.value.handed ≡ session.value.handed + 1 }
-    ensures noted { out.new.value.noted.items ≡ session.value.noted.items }
-    ensures session { out.new.value.session ≡ session.value.session }
+        HasHandedOut (device_of session.value.session) None (device_of out.new.value.session) }
+    ensures write { result ≡ a_write → HasHandedOut (device_of session.value.session)
+        (Some (Write sector.new bytes.new)) (device_of out.new.value.session) }
+    ensures sync { result ≡ a_sync →
+        HasHandedOut (device_of session.value.session) (Some Sync) (device_of out.new.value.session) }
+    ensures kinds { (result ≡ no_call) ⊎ ((result ≡ a_write) ⊎ (result ≡ a_sync)) }
+    ensures disk { HasHanded (host_disk (device_of session.value.session))
+        (host_disk (device_of out.new.value.session)) }
+    ensures kept { KeepsAllBut session.value.session out.new.value.session }
 {
     let mut game = session.into_box();
     let kind = match game.next_call() {
@@ -353,8 +366,6 @@ pub extern "C" fn gbkeep_count_session(session: SessionHandle, out: &mut Session
     ensures held { out.new.held ≡ true }
     ensures count { result ≡ acknowledged_of session.value.session + length (pending_of session.value.session) }
     ensures session { out.new.value.session ≡ session.value.session }
-    ensures noted { out.new.value.noted.items ≡ session.value.noted.items }
-    ensures handed { out.new.value.handed ≡ session.value.handed }
 {
     let game = session.into_box();
     let count = game.count();
@@ -374,8 +385,6 @@ pub extern "C" fn gbkeep_draw_session(
     ensures held { out.new.held ≡ true }
     ensures shades { shades.new ≡ shades_of (picture_rows (machine_of session.value.session)) }
     ensures session { out.new.value.session ≡ session.value.session }
-    ensures noted { out.new.value.noted.items ≡ session.value.noted.items }
-    ensures handed { out.new.value.handed ≡ session.value.handed }
 {
     let mut game = session.into_box();
     game.picture(shades);
@@ -389,8 +398,6 @@ pub extern "C" fn gbkeep_measure_session(session: SessionHandle, out: &mut Sessi
     ensures held { out.new.held ≡ true }
     ensures length { result ≡ state_length (length (machine_of session.value.session).processor.memory.banks.ram) }
     ensures session { out.new.value.session ≡ session.value.session }
-    ensures noted { out.new.value.noted.items ≡ session.value.noted.items }
-    ensures handed { out.new.value.handed ≡ session.value.handed }
 {
     let game = session.into_box();
     let bytes = game.state_length();
@@ -411,8 +418,6 @@ pub extern "C" fn gbkeep_keep_session(
     ensures held { out.new.held ≡ true }
     ensures state { bytes.new ≡ state_of (machine_of session.value.session) }
     ensures session { out.new.value.session ≡ session.value.session }
-    ensures noted { out.new.value.noted.items ≡ session.value.noted.items }
-    ensures handed { out.new.value.handed ≡ session.value.handed }
 {
     let mut game = session.into_box();
     game.state(bytes);
@@ -429,8 +434,6 @@ pub extern "C" fn gbkeep_battery_length_session(
     ensures held { out.new.held ≡ true }
     ensures length { result ≡ battery_length (rom_of session.value.session) }
     ensures session { out.new.value.session ≡ session.value.session }
-    ensures noted { out.new.value.noted.items ≡ session.value.noted.items }
-    ensures handed { out.new.value.handed ≡ session.value.handed }
 {
     let game = session.into_box();
     let bytes = game.battery_length();
@@ -455,8 +458,6 @@ pub extern "C" fn gbkeep_battery_session(
     ensures refused { ¬ (result ≡ done) → bytes.new ≡ bytes.old }
     ensures code { IsBatteryCode (rom_of session.value.session) result }
     ensures session { out.new.value.session ≡ session.value.session }
-    ensures noted { out.new.value.noted.items ≡ session.value.noted.items }
-    ensures handed { out.new.value.handed ≡ session.value.handed }
 {
     let game = session.into_box();
     let code = match game.battery(alloc, bytes) {

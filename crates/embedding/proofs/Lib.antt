@@ -1,3 +1,3 @@
+pub mod Counting
 pub mod Noting
-pub mod Same
 pub mod StateAnswers

@@ -1,8 +1,7 @@
 -- The calls that a host has to make, as a record of a device.
-use Rattle.std.specs.Prelude.{ℕ, zero, suc, List, ◌&&◌, map, replicate, refl, IsTrue, true}
+use Rattle.std.specs.Prelude.{ℕ, zero, suc, ◌+◌, ◌*◌, List, [], ◌∷◌, ◌++◌, ◌&&◌, map, replicate, refl, slice_range, IsTrue, true}
 use Rattle.std.proofs.Common.{ap, ◌∙◌}
-use Rattle.sector_device.specs.DiskState.{DiskState}
-use Rattle.sector_device.specs.Records.{recorded_disk, is_sector, are_sectors}
+use Rattle.sector_device.specs.Records.{is_sector, are_sectors}
 use Rattle.sector_device.specs.declared.recorded.Recorded.{Recorded}
 use Rattle.sector_device.specs.declared.recorded.Recorded.TheVariants as recorded
 use Rattle.embedding.specs.declared.host_device.Call.{Call}
@@ -20,10 +19,14 @@ made Sync = recorded.Sync true
 abbrev pub recorded_of : List Call → List Recorded
 recorded_of calls = map made calls
 
--- The disk of a device of so many sectors that were zeros, after these calls: an image is what the last sync left, with any of the
--- writes since; an image since a moment is one after that many of the calls or more.
-abbrev pub disk_after : (count : ℕ) → List Call → (faults : ℕ) → DiskState
-disk_after count calls faults = recorded_disk (Unit {0}) (blank count) (recorded_of calls) faults
+-- the sectors of an image, so many of them, each written
+abbrev pub image_writes : (image : List ℕ) → ℕ → List Recorded
+image_writes image zero = []
+image_writes image (suc at) = image_writes image at ++ recorded.Write at (slice_range image (512 * at) (512 * at + 512)) true ∷ []
+
+-- what puts an image of so many sectors on a disk: each sector written, and a sync
+abbrev pub image_calls : (image : List ℕ) → ℕ → List Recorded
+image_calls image count = image_writes image count ++ recorded.Sync true ∷ []
 
 -- zero sectors are of 512 bytes
 pub sized : (count : ℕ) → IsTrue (are_sectors (blank count))

@@ -1,24 +1,23 @@
 -- The game that is taken up from an image of a device, and the one that begins with a battery file.
-use Rattle.std.specs.Prelude.{◌≡◌, ◌≢◌, ◌<◌, ◌+◌, ◌*◌, ◌%◌, ◌⊎◌, ℕ, List, length, take, slice_range, Some, true, false, ⊤}
+use Rattle.std.specs.Prelude.{◌≡◌, ◌≢◌, ◌<◌, ◌+◌, ◌*◌, ◌%◌, ◌⊎◌, ℕ, List, [], length, slice_range, Some, Result, Ok, Err, true, false, ⊤}
 use Rattle.cartridge.specs.Accepted.{IsAccepted, refusal_of}
 use Rattle.cartridge.specs.Header.{has_battery, ram_length_of}
 use Rattle.machine.specs.Machine.{MachineState}
 use Rattle.sector_device.specs.DiskState.{sector_at, next_count}
 use Rattle.sector_device.specs.declared.device.SectorDevice.{Ghosts}
 use Rattle.log_format.specs.Content.{content, generation_in}
-use Rattle.session.specs.Accessors.{device_of, log_in, pending_of, is_broken, generation_in_use}
+use Rattle.session.specs.Accessors.{acknowledged_of, device_of, log_in, pending_of, is_broken, generation_in_use}
 use Rattle.session.specs.Calls.{IsSaveCause as IsSessionSaveCause, fits_log}
 use Rattle.session.specs.Found.{IsNewGameCause, IsResumeCause}
 use Rattle.session.specs.declared.error.SessionError.{SessionError}
 use Rattle.session.specs.declared.session.Session as TheSession
-use Rattle.session.specs.declared.error.SessionError.TheVariants.{Broken, Device}
+use Rattle.session.specs.declared.error.SessionError.TheVariants.{Device, Memory as NoMemory}
 use Rattle.session.specs.Stands.{stands}
 use Rattle.snapshot.specs.Encoding.{snapshot_length}
 use Rattle.battery_files.specs.Importing.{is_taken_length}
-use Rattle.embedding.specs.HostDevices.{calls_of, host_disk}
+use Rattle.embedding.specs.HostDevices.{host_disk}
 use Rattle.embedding.specs.declared.error.GameError.{GameError}
 use Rattle.embedding.specs.declared.error.GameError.TheVariants.{Memory, Cart, NoBattery, BatteryLength, Size, Session}
-use Rattle.embedding.specs.declared.host_device.Call.{Call}
 use Rattle.embedding.specs.declared.host_device.HostDevice.{HostDevice}
 
 -- these sectors are the bytes of an image, 512 each
@@ -79,18 +78,22 @@ IsImportCause rom battery sectors (Size bytes) = ⊥
 IsImportCause rom battery sectors (Session why) = IsTaken rom battery × IsNewGameCause (snapshot_length (ram_length_of rom)) sectors why
 
 module _ {disk : Ghosts HostDevice} where
-  -- why a session does not save; `Device` stands for one more call of the device that failed
-  abbrev pub IsSessionCause : (old new : TheSession.Session HostDevice disk) → SessionError → Type 0
-  IsSessionCause old new why =
+  -- Why no save is told: why the session does not save; `Device` stands for one more call of the device that failed, for want of memory for its
+  -- note.
+  abbrev pub IsSaveCause : (old new : TheSession.Session HostDevice disk) → SessionError → Type 0
+  IsSaveCause old new why =
       IsSessionSaveCause why (is_broken old) (fits_log (log_in old) (pending_of old)) (generation_in_use old)
       × (why ≡ Device → (host_disk (device_of new)).faults ≡ next_count (host_disk (device_of old)).faults)
 
-  -- Why no save is told: as of the session; or a device whose calls do not begin with those that were noted. Nothing is said of running out of
-  -- memory.
-  abbrev pub IsSaveCause : (old new : TheSession.Session HostDevice disk) → (noted : List Call) → GameError → Type 0
-  IsSaveCause old new noted Memory = ⊤
-  IsSaveCause old new noted (Session why) = IsSessionCause old new why ⊎ ((why ≡ Broken) × (take (length noted) (calls_of (device_of new)) ≢ noted))
-  IsSaveCause old new noted why = ⊥
+  -- as many inputs, of which those are not acknowledged that were not, or none
+  abbrev pub KeepsInputs : (old new : TheSession.Session HostDevice disk) → Type 0
+  KeepsInputs old new =
+      (acknowledged_of new + length (pending_of new) ≡ acknowledged_of old + length (pending_of old))
+      × ((pending_of new ≡ pending_of old) ⊎ (pending_of new ≡ []))
+
+-- To the power switch, where an input would be answered so: the same; or that there is no memory, where an input would be taken.
+abbrev pub IsPowerAnswer : (taken answer : Result Unit SessionError) → Type 0
+IsPowerAnswer taken answer = (answer ≡ taken) ⊎ ((answer ≡ Err NoMemory) × (taken ≡ Ok tt))
 
 -- why a game gives no battery file: a cartridge without battery; and want of memory only where it has one
 abbrev pub IsBatteryCause : (rom : List ℕ) → GameError → Type 0

@@ -1,23 +1,24 @@
 //! A game whose disk is the host's: it hands out the calls that the host has to make.
 
-ghost use Rattle.std.specs.Prelude.{◌≡◌, ◌≤◌, ◌<◌, ◌+◌, ◌*◌, ◌++◌, ◌∷◌, [], true, false, ℕ, List, length, min, take, slice_get, slice_range, Decides, Some, None, Ok, IfOk, IfErr, IfSome, IfNone, OnOk, OnErr};
+ghost use Rattle.std.specs.Prelude.{◌≡◌, ◌<◌, ◌+◌, ◌*◌, ◌++◌, ◌∷◌, [], true, false, ℕ, List, length, slice_range, Ok, IfOk, IfErr, OnOk, OnErr};
 ghost use Rattle.cartridge.specs.Accepted.{IsAccepted, refusal_of};
 ghost use Rattle.cartridge.specs.Header.{has_battery, ram_length_of};
 ghost use Rattle.machine.specs.Machine.{Power, State, start, as_input, applied, picture_rows};
 ghost use Rattle.snapshot.specs.Encoding.{snapshot_length};
 ghost use Rattle.state_header.specs.States.{state_length, state_of};
-ghost use Rattle.sector_device.specs.DiskState.{sector_at};
+ghost use Rattle.sector_device.specs.DiskState.{Follows, HasHanded, sector_at};
 ghost use Rattle.sector_device.specs.Runs.{HoldsSince};
 ghost use Rattle.log_format.specs.Content.{content, need};
-ghost use Rattle.session.specs.Accessors.{device_of, machine_of, rom_of, pending_of, acknowledged_of, is_broken, IsUnchanged};
+ghost use Rattle.session.specs.Accessors.{device_of, machine_of, rom_of, pending_of, acknowledged_of, is_broken, IsUnchanged, KeepsAllBut};
 ghost use Rattle.session.specs.Calls.{input_answer};
-ghost use Rattle.session.specs.Stands.{IsAtRest, stands, StandsBetween};
+ghost use Rattle.session.specs.Stands.{IsAtRest, StandsAtCount, StandsBetween, stands};
 ghost use Rattle.session.specs.Inputs.{can_be_logged, entry_of, inputs_of};
 ghost use Rattle.battery_files.specs.Battery.{battery_length, battery_of};
 ghost use Rattle.battery_files.specs.Importing.{IsImportCause as IsFileCause, start_with};
 ghost use Rattle.embedding.specs.Orders.{shades_of};
-ghost use Rattle.embedding.specs.Games.{IsBatteryCause, IsBeginCause, IsCartCause, IsFrom, IsImportCause, IsSaveCause, IsTakeUpCause, IsTaken};
-ghost use Rattle.embedding.specs.HostDevices.{calls_of, count_of, host_disk};
+ghost use Rattle.embedding.specs.Games.{IsBatteryCause, IsBeginCause, IsCartCause, IsFrom, IsImportCause, IsPowerAnswer, IsSaveCause, IsTakeUpCause, IsTaken, KeepsInputs};
+ghost use Rattle.embedding.specs.Calls.{image_calls};
+ghost use Rattle.embedding.specs.HostDevices.{HasHandedOut, calls_of, count_of, handed_of, host_disk, waiting_of};
 ghost use Rattle.embedding.specs.States.{IsStateAnswer};
 
 use crate::error::GameError;
@@ -32,20 +33,12 @@ use session::{Session, SessionError, new_game, new_game_from, resume, sectors_ne
 use state_header::{HEADER_LENGTH, Named};
 use std::alloc::Global;
 
-/// A game, the calls that its device noted, and how many of them were handed out.
-///
-/// While `in_step` holds, what was noted is what the device noted: it is then the order in which the host makes the calls. What was noted
-/// only grows, and `next_call` hands out each call once, in order.
+/// A game on a device that notes the calls for its host. `next_call` hands out each call once, in order; what was handed out leaves the memory.
 #[derive(Drop)]
 pub struct Game {
     session: Session<HostDevice>,
-    noted: Vec<Call>,
-    handed: usize,
-    in_step: bool,
     cartridge: Cartridge,
     ghost own: { rom_of session ≡ cartridge },
-    ghost within: { handed ≤ length noted.items },
-    ghost step: { in_step ≡ true → noted.items ≡ calls_of (device_of session) },
 }
 
 /// The cartridge in a copy of an image.
@@ -89,77 +82,26 @@ pub fn sectors_of(alloc: Global, rom: &[u8]) -> Result<u64, GameError>
     Ok(sectors_needed(&cartridge))
 }
 
-/// Whether the second list begins with the first.
-fn begins(first: &[Call], all: &[Call]) -> bool
-    ensures { Decides result (take (length first.now) all.now ≡ first.now) }
-{
-    if all.len() < first.len() {
-        return false;
-    }
-    first == &all[..first.len()]
-}
-
-/// Adds the calls that are beyond those noted; false where there is no memory for them.
-fn note_more(noted: &mut Vec<Call>, all: &[Call]) -> bool
-    requires { take (length noted.old.items) all.now ≡ noted.old.items }
-    ensures done { result ≡ true → noted.new.items ≡ all.now }
-    ensures failed { result ≡ false → noted.new.items ≡ noted.old.items }
-{
-    let from = noted.len();
-    noted.extend_from_slice(&all[from..]).is_ok()
-}
-
-/// Writes the sectors of an image to a device of as many sectors, and syncs.
-fn write_image(device: &mut HostDevice, image: &[u8]) -> Result<(), GameError>
-    requires { length image.now ≡ 512 * count_of device.old }
-    ensures sectors { OnOk result ((k : ℕ) → k < count_of device.old →
-        sector_at (host_disk device.new).sectors k ≡ slice_range image.now (512 * k) (512 * k + 512)) }
+/// Fills a device with the sectors of an image, which the host's disk holds.
+fn fill_from(device: &mut HostDevice, image: &[u8])
+    requires size { length image.now ≡ 512 * count_of device.old }
+    requires new { (handed_of device.old ≡ []) × (waiting_of device.old ≡ []) }
+    ensures sectors { (k : ℕ) → k < count_of device.old →
+        sector_at (host_disk device.new).sectors k ≡ slice_range image.now (512 * k) (512 * k + 512) }
+    ensures handed { handed_of device.new ≡ image_calls image.now (count_of device.old) }
+    ensures waiting { waiting_of device.new ≡ [] }
     ensures count { count_of device.new ≡ count_of device.old }
-    ensures cause { IfErr result (λ why. why ≡ GameError.Memory) }
 {
     let mut sector = [0; 512];
     for at in 0..device.count() {
         let from = 512 * at as usize;
         sector.copy_from_slice(&image[from..from + 512]);
-        if let Err(_) = device.write(at, &sector) {
-            return Err(GameError::Memory);
-        }
+        device.fill(at, &sector);
     }
-    match device.sync() {
-        Ok(()) => Ok(()),
-        Err(_) => Err(GameError::Memory),
-    }
+    device.fill_done();
 }
 
 impl Game {
-    // A game with a session that was begun or taken up, once its device had noted so many calls, none of which the host has to make. That it has
-    // noted no fewer by now is no clause of a session, so the lesser counts.
-    fn of(
-        alloc: Global,
-        session: Session<HostDevice>,
-        cartridge: Cartridge,
-        written: usize,
-    ) -> Result<Game, GameError>
-        requires { rom_of session ≡ cartridge }
-        ensures session { IfOk result (λ g. g.session ≡ session) }
-        ensures step { IfOk result (λ g. g.in_step ≡ true) }
-        ensures handed { IfOk result (λ g. g.handed ≡ min written (length (calls_of (device_of session)))) }
-        ensures cause { IfErr result (λ why. why ≡ GameError.Memory) }
-    {
-        let Ok(noted) = session.device().calls().to_vec(alloc) else {
-            drop(session);
-            return Err(GameError::Memory);
-        };
-        let handed = written.min(noted.len());
-        Ok(Game {
-            session,
-            noted,
-            handed,
-            in_step: true,
-            cartridge,
-        })
-    }
-
     /// Begins a game at power-on on a device of so many zero sectors. The calls that begin it are the first that the host has to make.
     ///
     /// Refusals: `Memory`; `Cart`; `Session` with `TooSmall`.
@@ -169,8 +111,8 @@ impl Game {
         ensures machine { IfOk result (λ g. (machine_of g.session ≡ start rom.now) × (rom_of g.session ≡ rom.now)) }
         ensures rests { IfOk result (λ g. IsAtRest rom.now (host_disk (device_of g.session)) 0 [] (start rom.now)) }
         ensures cause { IfErr result (IsBeginCause rom.now sectors) }
-        ensures step { IfOk result (λ g. g.in_step ≡ true) }
-        ensures first { IfOk result (λ g. g.handed ≡ 0) }
+        ensures sectors { IfOk result (λ g. count_of (device_of g.session) ≡ sectors) }
+        ensures first { IfOk result (λ g. handed_of (device_of g.session) ≡ []) }
     {
         let cartridge = match read_cartridge(alloc, rom) {
             Ok(cartridge) => cartridge,
@@ -180,7 +122,7 @@ impl Game {
             return Err(GameError::Memory);
         };
         match new_game(alloc, device, &cartridge) {
-            Ok(session) => Game::of(alloc, session, cartridge, 0),
+            Ok(session) => Ok(Game { session, cartridge }),
             Err(refused) => Err(GameError::Session(refused.why)),
         }
     }
@@ -204,8 +146,8 @@ impl Game {
             IsAtRest rom.now (host_disk (device_of g.session)) 0 [] (start_with rom.now battery.now)) }
         ensures taken { IfOk result (λ g. IsTaken rom.now battery.now) }
         ensures cause { IfErr result (IsImportCause rom.now battery.now sectors) }
-        ensures step { IfOk result (λ g. g.in_step ≡ true) }
-        ensures first { IfOk result (λ g. g.handed ≡ 0) }
+        ensures sectors { IfOk result (λ g. count_of (device_of g.session) ≡ sectors) }
+        ensures first { IfOk result (λ g. handed_of (device_of g.session) ≡ []) }
     {
         let cartridge = match read_cartridge(alloc, rom) {
             Ok(cartridge) => cartridge,
@@ -220,7 +162,7 @@ impl Game {
             return Err(GameError::Memory);
         };
         match new_game_from(alloc, device, &cartridge, machine) {
-            Ok(begun) => Game::of(alloc, begun, cartridge, 0),
+            Ok(session) => Ok(Game { session, cartridge }),
             Err(refused) => Err(GameError::Session(refused.why)),
         }
     }
@@ -237,9 +179,6 @@ impl Game {
             pending_of self.old.session ++ entry_of (as_input input) ∷ []) }
         ensures refused { OnErr result (IsUnchanged self.old.session self.new.session) }
         ensures device { device_of self.new.session ≡ device_of self.old.session }
-        ensures noted { self.new.noted.items ≡ self.old.noted.items }
-        ensures handed { self.new.handed ≡ self.old.handed }
-        ensures step { self.new.in_step ≡ self.old.in_step }
         ensures kept { (acknowledged_of self.new.session ≡ acknowledged_of self.old.session) ×
             (rom_of self.new.session ≡ rom_of self.old.session) }
     {
@@ -250,14 +189,13 @@ impl Game {
     ///
     /// Refusals, none of which changes anything: those of `Session::power`.
     pub fn power(&mut self, alloc: Global) -> Result<(), SessionError>
+        ensures answer { IsPowerAnswer (input_answer (is_broken self.old.session) (length (pending_of self.old.session))
+            (acknowledged_of self.old.session + length (pending_of self.old.session))) result }
         ensures machine { OnOk result (machine_of self.new.session ≡ applied Power (machine_of self.old.session)) }
         ensures pending { OnOk result (pending_of self.new.session ≡
             pending_of self.old.session ++ entry_of Power ∷ []) }
         ensures refused { OnErr result (IsUnchanged self.old.session self.new.session) }
         ensures device { device_of self.new.session ≡ device_of self.old.session }
-        ensures noted { self.new.noted.items ≡ self.old.noted.items }
-        ensures handed { self.new.handed ≡ self.old.handed }
-        ensures step { self.new.in_step ≡ self.old.in_step }
         ensures kept { (acknowledged_of self.new.session ≡ acknowledged_of self.old.session) ×
             (rom_of self.new.session ≡ rom_of self.old.session) }
     {
@@ -278,9 +216,6 @@ impl Game {
             pending_of self.old.session ++ entry_of (State (machine_of self.new.session)) ∷ []) }
         ensures refused { OnErr result (IsUnchanged self.old.session self.new.session) }
         ensures device { device_of self.new.session ≡ device_of self.old.session }
-        ensures noted { self.new.noted.items ≡ self.old.noted.items }
-        ensures handed { self.new.handed ≡ self.old.handed }
-        ensures step { self.new.in_step ≡ self.old.in_step }
         ensures kept { (acknowledged_of self.new.session ≡ acknowledged_of self.old.session) ×
             (rom_of self.new.session ≡ rom_of self.old.session) }
     {
@@ -294,25 +229,26 @@ impl Game {
         }
     }
 
-    /// Saves what is pending. At `Ok` the calls that were noted end with the sync that makes it sure: once the host has made them all, no power
-    /// cut loses any of the inputs. The answer is the count of all inputs.
+    /// Saves what is pending. At `Ok` the calls that are to be handed out end with the sync that makes it sure: once the host has made them all, no
+    /// power cut loses any of the inputs. The answer is the count of all inputs.
     ///
-    /// Refusals: those of `Session::save`; `Session` with `Broken`, where the device's calls do not begin with those that were noted; `Memory`, where
-    /// there is none for the notes: what was saved is told by the next save.
-    pub fn save(&mut self) -> Result<u64, GameError>
-        // the calls that the host has to make: more of them, and those that it has by now stay
-        ensures grows { take (length self.old.noted.items) self.new.noted.items ≡ self.old.noted.items }
-        ensures handed { self.new.handed ≡ self.old.handed }
+    /// Refusals: those of `Session::save`, of which `Device` means that there was no memory for the note of a call.
+    pub fn save(&mut self) -> Result<u64, SessionError>
+        // the calls that the host has to make: those that it has by now stay, and more may stand behind them
+        ensures calls { Follows (calls_of (device_of self.old.session)) (calls_of (device_of self.new.session)) }
+        ensures handed { handed_of (device_of self.new.session) ≡ handed_of (device_of self.old.session) }
 
-        // at Ok they are those of the device, which rests at all inputs
-        ensures step { IfOk result (λ all. self.new.noted.items ≡ calls_of (device_of self.new.session)) }
+        // at Ok the device rests at all inputs
         ensures all { IfOk result (λ all.
             (all ≡ acknowledged_of self.old.session + length (pending_of self.old.session)) ×
             (acknowledged_of self.new.session ≡ all) × (pending_of self.new.session ≡ [])) }
-        ensures cause { IfErr result (IsSaveCause self.old.session self.new.session self.old.noted.items) }
+        ensures cause { IfErr result (IsSaveCause self.old.session self.new.session) }
         ensures rests { IfOk result (λ all.
             IsAtRest (rom_of self.old.session) (host_disk (device_of self.new.session)) all []
             (machine_of self.old.session)) }
+
+        // no input is added or lost, also where it is refused
+        ensures inputs { KeepsInputs self.old.session self.new.session }
 
         // at each moment the device stands for a prefix of the inputs that has all that were told before
         ensures images { is_broken self.old.session ≡ false →
@@ -327,39 +263,22 @@ impl Game {
         ensures stood { is_broken self.old.session ≡ false → can_be_logged (pending_of self.old.session) ≡ true →
             IsAtRest (rom_of self.old.session) (host_disk (device_of self.old.session))
             (acknowledged_of self.old.session) (pending_of self.old.session) (machine_of self.old.session) }
+        ensures counts { is_broken self.old.session ≡ false →
+            StandsAtCount (rom_of self.old.session) (host_disk (device_of self.old.session))
+            (acknowledged_of self.old.session) }
         ensures machine { (machine_of self.new.session ≡ machine_of self.old.session) ×
             (rom_of self.new.session ≡ rom_of self.old.session) }
     {
-        let saved = self.session.save();
-        self.in_step = false;
-        if !begins(&self.noted, self.session.device().calls()) {
-            return Err(GameError::Session(SessionError::Broken));
-        }
-        if !note_more(&mut self.noted, self.session.device().calls()) {
-            return Err(GameError::Memory);
-        }
-        self.in_step = true;
-        match saved {
-            Ok(all) => Ok(all),
-            Err(why) => Err(GameError::Session(why)),
-        }
+        self.session.save()
     }
 
     /// The next call that the host has to make, if there is one that was not handed out.
     pub fn next_call(&mut self) -> Option<Call>
-        ensures call { result ≡ slice_get self.old.noted.items self.old.handed }
-        ensures handed { IfSome result (λ call. self.new.handed ≡ self.old.handed + 1) }
-        ensures none { IfNone result (self.new.handed ≡ self.old.handed) }
-        ensures noted { self.new.noted.items ≡ self.old.noted.items }
-        ensures session { self.new.session ≡ self.old.session }
-        ensures step { self.new.in_step ≡ self.old.in_step }
+        ensures call { HasHandedOut (device_of self.old.session) result (device_of self.new.session) }
+        ensures disk { HasHanded (host_disk (device_of self.old.session)) (host_disk (device_of self.new.session)) }
+        ensures kept { KeepsAllBut self.old.session self.new.session }
     {
-        if self.handed == self.noted.len() {
-            return None;
-        }
-        let call = self.noted[self.handed];
-        self.handed += 1;
-        Some(call)
+        self.session.next_call()
     }
 
     /// How many inputs there are, saved and unsaved.
@@ -374,9 +293,6 @@ impl Game {
         requires { length shades.old ≡ 23040 }
         ensures shades { shades.new ≡ shades_of (picture_rows (machine_of self.old.session)) }
         ensures session { self.new.session ≡ self.old.session }
-        ensures noted { self.new.noted.items ≡ self.old.noted.items }
-        ensures handed { self.new.handed ≡ self.old.handed }
-        ensures step { self.new.in_step ≡ self.old.in_step }
     {
         self.session.draw_late();
         write_shades(self.session.machine().picture(), shades);
@@ -396,9 +312,6 @@ impl Game {
             state_length (length (machine_of self.old.session).processor.memory.banks.ram) }
         ensures state { bytes.new ≡ state_of (machine_of self.old.session) }
         ensures session { self.new.session ≡ self.old.session }
-        ensures noted { self.new.noted.items ≡ self.old.noted.items }
-        ensures handed { self.new.handed ≡ self.old.handed }
-        ensures step { self.new.in_step ≡ self.old.in_step }
     {
         self.session.draw_late();
         write_state(self.session.machine(), &self.cartridge, bytes);
@@ -440,7 +353,10 @@ impl Game {
             (pending_of g.session ≡ []) × (is_broken g.session ≡ false) × (rom_of g.session ≡ rom.now)) }
         ensures rests { IfOk result (λ g.
             IsAtRest rom.now (host_disk (device_of g.session)) (acknowledged_of g.session) [] (machine_of g.session)) }
-        ensures step { IfOk result (λ g. g.in_step ≡ true) }
+        ensures sectors { IfOk result (λ g. 512 * count_of (device_of g.session) ≡ length image.now) }
+        // what put the image on the device, and nothing else, is not handed out
+        ensures handed { IfOk result (λ g. handed_of (device_of g.session) ≡
+            image_calls image.now (count_of (device_of g.session))) }
         ensures from { IfOk result (λ g. IsFrom rom.now image.now (acknowledged_of g.session) (machine_of g.session)) }
         ensures cause { IfErr result (IsTakeUpCause rom.now image.now) }
     {
@@ -454,12 +370,9 @@ impl Game {
         let Ok(mut device) = HostDevice::new(alloc, image.len() / 512) else {
             return Err(GameError::Memory);
         };
-        if let Err(why) = write_image(&mut device, image) {
-            return Err(why);
-        }
-        let written = device.calls().len();
+        fill_from(&mut device, image);
         match resume(alloc, device, &cartridge) {
-            Ok(session) => Game::of(alloc, session, cartridge, written),
+            Ok(session) => Ok(Game { session, cartridge }),
             Err(refused) => Err(GameError::Session(refused.why)),
         }
     }

@@ -4,5 +4,6 @@ pub mod Calls
 mod Images
 mod Files
 pub mod Runs
+pub mod HandedOut
 pub mod FailingCalls
 pub mod Looking

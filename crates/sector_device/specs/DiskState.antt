@@ -1,7 +1,8 @@
 -- What a device of sectors stands at, and what one call may make of it: the disk model of this project. A write adds at
 -- most, for each image, that image with the sector replaced; a successful sync leaves the one image that reads give; a
 -- fault leaves old or new.
-use Rattle.std.specs.Prelude.{◌<◌, ◌≡◌, ◌↔◌, ◌⊎◌, ◌+◌, ◌-◌, ◌^◌, min, ℕ, ◌≤◌, List, [], length, slice_index_or, slice_set, Result, OnOk, OnErr, IfErr, IsErr}
+use Rattle.std.specs.Prelude.{◌<◌, ◌≡◌, ◌↔◌, ◌⊎◌, ◌+◌, ◌-◌, ◌^◌, ◌++◌, min, ℕ, ◌≤◌, List, [], length, slice_index_or, slice_set, Result, OnOk, OnErr, IfErr, IsErr}
+use Rattle.sector_device.specs.declared.recorded.Recorded.{Recorded}
 
 abbrev pub sector_at : List (List ℕ) → ℕ → List ℕ
 sector_at image at = slice_index_or image at []
@@ -20,6 +21,10 @@ pub record DiskState : Type 1 where
   pub since : ℕ → List (List ℕ) → Type 0
   -- how many calls have failed
   pub faults : ℕ
+  -- the writes and syncs that it was asked for, the first of them first
+  pub calls : List Recorded
+  -- how many of them were handed out, where somebody else makes them
+  pub handed : ℕ
 
 -- so many sectors of 512 bytes
 pub record IsSized (count : ℕ) (image : List (List ℕ)) : Type 0 where
@@ -92,6 +97,11 @@ pub record CountsFaults {T E : Type 0} (old new : ℕ) (result : Result T E) : T
   pub ok : OnOk result (new ≡ old)
   pub err : OnErr result (new ≡ next_count old)
 
+-- Calls only come: those that were asked for before stay, in their order, and more may stand behind them.
+pub record Follows (old now : List Recorded) : Type 0 where
+  pub more : List Recorded
+  pub is : now ≡ old ++ more
+
 -- What each call does on any device, honest or not. It holds as well of a run of calls that ends at the first one that fails.
 pub record HasCalled {T E : Type 0} (old now : DiskState) (result : Result T E) : Type 0 where
   -- the number of sectors stays
@@ -100,6 +110,9 @@ pub record HasCalled {T E : Type 0} (old now : DiskState) (result : Result T E) 
   pub honest : now.honest ↔ old.honest
   -- it counts as a fault exactly if it failed
   pub faults : CountsFaults old.faults now.faults result
+  -- what was asked for stays, and nothing of it is handed out
+  pub follows : Follows old.calls now.calls
+  pub handed : now.handed ≡ old.handed
 
 -- The same of a call of a layer above: its error may have another cause than a failed call, and `faults_after` says what count of
 -- faults each error leaves.
@@ -112,8 +125,22 @@ pub record HasAnswered {T E : Type 0} (faults_after : E → ℕ → ℕ) (old no
   pub faults_ok : OnOk result (now.faults ≡ old.faults)
   -- at an error as many did as it says
   pub faults : IfErr result (λ why. now.faults ≡ faults_after why old.faults)
+  -- what was asked for stays, and nothing of it is handed out
+  pub follows : Follows old.calls now.calls
+  pub handed : now.handed ≡ old.handed
 
 -- for a run of calls: no fault is forgotten, and an error has one as its cause, or the count stands at the greatest `u64`
 pub record HasCause {T E : Type 0} (old new : ℕ) (result : Result T E) : Type 0 where
   pub grows : old ≤ new
   pub cause : IsErr result → (old < new) ⊎ (new ≡ 2 ^ 64 - 1)
+
+-- what the layers above see of a device that has handed out some of its calls: all is as it was, but for how many these are
+pub record HasHanded (old now : DiskState) : Type 0 where
+  pub sectors : now.sectors ≡ old.sectors
+  pub honest : now.honest ↔ old.honest
+  pub images : NoNewImage old now
+  pub kept : NoLostImage old now
+  pub moment : now.moment ≡ old.moment
+  pub since : (t : ℕ) (c : List (List ℕ)) → now.since t c ↔ old.since t c
+  pub faults : now.faults ≡ old.faults
+  pub calls : now.calls ≡ old.calls

@@ -51,6 +51,8 @@ recorded_disk honest at_start calls faults = record {
   moment = length calls;
   since = IsImageSince at_start calls;
   faults = faults;
+  calls = calls;
+  handed = 0;
 }
 
 abbrev pub is_sector : List ℕ → Bool

@@ -1,12 +1,12 @@
-//! What a file held and what was asked of it, as clauses read it. It takes no memory.
+//! What a device held and what was asked of it, as clauses read it. It takes no memory.
 ghost use Rattle.std.specs.Prelude.{◌≡◌, List, ℕ};
 ghost use Rattle.std.specs.Borrow.{ftrue};
 ghost use Rattle.sector_device.specs.declared.recorded.Recorded.{Recorded};
 
 use std::marker::{Model, PhantomData};
 
-/// What a file held as it was opened, the sectors that were found in it then, and the writes and syncs since. Clauses alone
-/// read it, and it takes no memory.
+/// Of a file, what it held as it was opened, the sectors that were found in it then, and the writes and syncs since; of another device, its writes
+/// and syncs. Clauses alone read it, and it takes no memory.
 #[derive(Drop)]
 pub struct FileRecord {
     marker: PhantomData<u8>,
@@ -23,8 +23,8 @@ impl FileRecord {
     ghost use Rattle.sector_device.specs.FileRecord.{unasked, noted, with_found, with_call};
     ghost use Rattle.sector_device.specs.declared.recorded.Recorded.TheVariants.{Write, Sync};
 
-    /// Of a file that holds this and of which nothing was asked yet.
-    pub(crate) fn new() -> FileRecord
+    /// Of a device that holds this and of which nothing was asked yet.
+    pub fn new() -> FileRecord
         ghost held: { List (List ℕ) }
         ensures { result ≡ unasked held }
     {
@@ -52,14 +52,14 @@ impl FileRecord {
     }
 
     /// Notes a write, and whether it succeeded.
-    pub(crate) fn note_write(&mut self, at: u64, bytes: &[u8; 512], kept: bool)
+    pub fn note_write(&mut self, at: u64, bytes: &[u8; 512], kept: bool)
         ensures { self.new ≡ with_call (Write at bytes.now kept) self.old }
     {
         self.note(&[1, at, u64::from(kept)], bytes);
     }
 
     /// Notes a sync, and whether it succeeded.
-    pub(crate) fn note_sync(&mut self, done: bool)
+    pub fn note_sync(&mut self, done: bool)
         ensures { self.new ≡ with_call (Sync done) self.old }
     {
         self.note(&[2, 0, u64::from(done)], &[]);

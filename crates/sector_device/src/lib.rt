@@ -4,6 +4,7 @@
 mod device;
 mod file;
 mod file_record;
+mod handing;
 mod laws;
 mod memory;
 mod recorded;
@@ -12,6 +13,8 @@ mod replay;
 
 pub use device::{DeviceFault, SectorDevice};
 pub use file::FileDevice;
+pub use file_record::FileRecord;
+pub use handing::HandingDevice;
 pub use laws::{
     file_keeps_the_disk_model, fuse_lets_so_many_pass, memory_keeps_the_disk_model,
     only_that_call_fails,

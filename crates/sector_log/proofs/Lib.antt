@@ -4,3 +4,4 @@ mod Findings
 mod Looking
 mod NewGeneration
 mod Places
+mod HandedOut

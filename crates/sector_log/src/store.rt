@@ -1,6 +1,6 @@
 //! A store: the log of a generation that this process began.
 ghost use Rattle.std.specs.Prelude.{◌≡◌, ◌≤◌, ◌<◌, ◌+◌, ◌-◌, ◌^◌, ◌⊎◌, ◌↔◌, [], ℕ, length, true, false, Some, OnOk, IfErr, IsErrOf, vec_capacity};
-ghost use Rattle.sector_device.specs.DiskState.{HasAnswered};
+ghost use Rattle.sector_device.specs.DiskState.{HasAnswered, HasHanded};
 ghost use Rattle.sector_device.specs.Runs.{HoldsSince};
 ghost use Rattle.log_format.specs.Appends.{HoldsPrefix, fits};
 ghost use Rattle.sector_log.specs.Calls.{ChangesOpenLog, IsAppendCause, HasOldOrNewContent, IsReplaceCause, faults_after};
@@ -14,7 +14,7 @@ use crate::generation::{begin_generation, refusal};
 use crate::writes::{sync_once, write_log};
 use crate::{Entry, StoredEntry};
 use log_format::{ENTRIES_PER_SECTOR, MOST_ENTRIES, MOST_INPUTS, Root, add_inputs, grown_length};
-use sector_device::{DeviceFault, SectorDevice};
+use sector_device::{DeviceFault, HandingDevice, SectorDevice};
 
 /// The log of a generation that this process began. Inputs can be appended until a call of the
 /// device fails.
@@ -176,5 +176,20 @@ impl<D: SectorDevice> Store<D> {
         ensures { result ≡ device_of self }
     {
         self.device
+    }
+}
+
+impl<D: HandingDevice> Store<D> {
+    ghost use Rattle.sector_log.specs.Accessors.{device_of, is_broken, entries_of, generation_of, id_of};
+
+    /// Hands out the next call that the device noted, if there is one. Nothing changes of the store.
+    pub fn next_call(&mut self) -> Option<D::Call>
+        ensures hands { D.hands (device_of self.old) result (device_of self.new) }
+        ensures disk { HasHanded (D.disk (device_of self.old)) (D.disk (device_of self.new)) }
+        ensures broken { is_broken self.new ≡ is_broken self.old }
+        ensures entries { entries_of self.new ≡ entries_of self.old }
+        ensures generation { (generation_of self.new ≡ generation_of self.old) × (id_of self.new ≡ id_of self.old) }
+    {
+        self.device.next_call()
     }
 }

@@ -8,3 +8,4 @@ pub mod Finding
 pub mod Saving
 pub mod SameSession
 pub mod Looks
+pub mod HandedOut

@@ -22,7 +22,7 @@ use Rattle.input_entries.specs.Inputs.{is_input, all_input}
 use Rattle.input_entries.specs.declared.Entry.{Entry}
 use Rattle.input_entries.specs.declared.StoredEntry.{StoredEntry}
 use Rattle.session.specs.Calls.{IsSaved, fits_log, most_unsaved}
-use Rattle.session.specs.Stands.{IsAtRest, Position, stands, further, StandsWithin, StandsBetween}
+use Rattle.session.specs.Stands.{count_in, IsAtRest, Position, stands, further, StandsWithin, StandsBetween}
 use Rattle.session.specs.Inputs.{can_be_logged, input_of, inputs_of, no_input}
 use Rattle.session.specs.Resting.{Rests}
 use Rattle.session.specs.Writing.{HoldsWritten, IsWritten}
@@ -88,6 +88,7 @@ rests_more now log acknowledged pending after_it entry m then input passes rests
     let inputs_are : inputs_of after_it ≡ inputs_of pending ++ input ∷ [] = ap inputs_of more ∙ logged_append pending (entry ∷ []) ∙ ap (λ (i : Input). inputs_of pending ++ i ∷ []) input_is in
     record {
       settled = rests.settled;
+      counts = ap (λ (r : List ℕ). count_in (stands r (content now.sectors))) same.rom ∙ rests.counts;
       at_rest = λ logged.
           let was : can_be_logged pending ≡ true = sym (logged_more pending entry one) ∙ sym (ap can_be_logged more) ∙ logged in
           let from = leading (stands rom (content now.sectors)) (inputs_of pending) (acknowledged + length pending) m (rests.at_rest was).leads in
@@ -108,10 +109,15 @@ rests_more now log acknowledged pending after_it entry m then input passes rests
 -- behind a power switch, or with another machine
 pub rests_otherwise :
     (now : DiskState) (log : List StoredEntry) (acknowledged : ℕ) (pending after_it : List Entry) (entry : Entry) (m then : MachineState)
-    → Rests now log acknowledged pending m → after_it ≡ pending ++ entry ∷ [] → entry ≡ no_input → Rests now log acknowledged after_it then
-rests_otherwise now log acknowledged pending after_it entry m then rests more none =
+    → Rests now log acknowledged pending m → after_it ≡ pending ++ entry ∷ [] → entry ≡ no_input → then.processor.memory.banks.rom ≡ m.processor.memory.banks.rom → Rests now log acknowledged after_it then
+rests_otherwise now log acknowledged pending after_it entry m then rests more none same =
     let other : can_be_logged after_it ≡ false = ap can_be_logged more ∙ not_logged pending entry (ap is_input none ∙ no_input_is_none) in
-    record { settled = rests.settled; at_rest = λ logged. let clash : true ≡ false = sym logged ∙ other in absurd (cc); log_is = rests.log_is }
+    record {
+      settled = rests.settled;
+      counts = ap (λ (r : List ℕ). count_in (stands r (content now.sectors))) same ∙ rests.counts;
+      at_rest = λ logged. let clash : true ≡ false = sym logged ∙ other in absurd (cc);
+      log_is = rests.log_is;
+    }
 
 -- ---- a save
 
@@ -173,11 +179,14 @@ module _
     appended_rests now then appended reads =
         let all : length (inputs_of pending) ≡ length pending = length-map pending input_of in
         let less : from.position.count + length pending < 2 ^ 64 = omega (arith, all, from.count_is, few) in
+        let stood : stands rom (content now.sectors) ≡ Some behind =
+        more_stands rom (content old.sectors) (content now.sectors) pending from.position appended.adds from.stood less ∙ ap (further (inputs_of pending)) (sym from.stood) ∙ (rests.at_rest logged).leads in
         record {
           settled = appended.settled;
+          counts = ap count_in stood;
           at_rest = λ none. record {
             settled = appended.settled;
-            leads = ap (further []) (more_stands rom (content old.sectors) (content now.sectors) pending from.position appended.adds from.stood less ∙ ap (further (inputs_of pending)) (sym from.stood) ∙ (rests.at_rest logged).leads)
+            leads = ap (further []) stood
                 ∙ (let same = after_none m in λ i. Some (record { count = acknowledged + length pending + 0; machine = same i }));
           };
           log_is = reads;

@@ -50,6 +50,15 @@ module _ {D : Type 0} {disk : Ghosts D} where
     pub log : log_in new ≡ log_in old
     pub generation : generation_in_use new ≡ generation_in_use old
 
+  -- nothing of it changed but the device
+  pub record KeepsAllBut (old new : Session D disk) : Type 0 where
+    pub machine : machine_of new ≡ machine_of old
+    pub pending : pending_of new ≡ pending_of old
+    pub acknowledged : acknowledged_of new ≡ acknowledged_of old
+    pub broken : is_broken new ≡ is_broken old
+    pub log : log_in new ≡ log_in old
+    pub generation : generation_in_use new ≡ generation_in_use old
+
   -- the device that `new_game`, `new_game_from` or `resume` leaves
   abbrev pub left_by : Result (Session D disk) (Refused SessionError D) → D
   left_by (Ok session) = device_of session

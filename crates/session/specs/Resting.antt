@@ -1,5 +1,5 @@
 -- What a session knows of its device and of its machine; a reader needs none of this.
-use Rattle.std.specs.Prelude.{◌≡◌, ◌≤◌, ℕ, List, [], length, Bool, true, false}
+use Rattle.std.specs.Prelude.{◌≡◌, ◌≤◌, ℕ, List, [], length, Some, Bool, true, false}
 use Rattle.std.proofs.Props.{props}
 use Rattle.cartridge.specs.Header.{has_rumble, ram_length_of}
 use Rattle.machine.specs.Machine.{MachineState}
@@ -11,7 +11,7 @@ use Rattle.log_format.specs.Found.{log_of}
 use Rattle.input_entries.specs.Inputs.{inputs}
 use Rattle.input_entries.specs.declared.Entry.{Entry}
 use Rattle.input_entries.specs.declared.StoredEntry.{StoredEntry}
-use Rattle.session.specs.Stands.{IsAtRest}
+use Rattle.session.specs.Stands.{IsAtRest, count_in, stands}
 use Rattle.session.specs.Inputs.{can_be_logged}
 
 -- kind, motor and length of RAM are those that its ROM asks for
@@ -25,6 +25,7 @@ own_prop m = hlevel props
 
 pub record Rests (now : DiskState) (log : List StoredEntry) (acknowledged : ℕ) (pending : List Entry) (machine : MachineState) : Type 0 where
   pub settled : Settled now
+  pub counts : count_in (stands machine.processor.memory.banks.rom (content now.sectors)) ≡ Some acknowledged
   pub at_rest : can_be_logged pending ≡ true → IsAtRest machine.processor.memory.banks.rom now acknowledged pending machine
   pub log_is : log_of (content now.sectors) ≡ log
 

@@ -4,12 +4,12 @@ ghost use Rattle.sha2.specs.Sha256.{sha256};
 ghost use Rattle.machine.specs.Machine.{Power, State, as_input, applied};
 ghost use Rattle.snapshot.specs.Encoding.{encoded, snapshot_length};
 ghost use Rattle.snapshot.specs.Legal.{IsMachineOf, IsOfImage};
-ghost use Rattle.sector_device.specs.DiskState.{HasAnswered};
+ghost use Rattle.sector_device.specs.DiskState.{HasAnswered, HasHanded};
 ghost use Rattle.sector_device.specs.Runs.{HoldsSince};
 ghost use Rattle.log_format.specs.Content.{need, content, generation_in};
 ghost use Rattle.sector_log.specs.Accessors.{device_of as device_of_store, is_broken as is_broken_store, id_of, entries_of};
 ghost use Rattle.session.specs.Calls.{IsRestoreAnswer, IsSaved, IsSaveCause, most_unsaved, input_answer, faults_after, fits_log};
-ghost use Rattle.session.specs.Stands.{IsAtRest, stands, StandsBetween};
+ghost use Rattle.session.specs.Stands.{IsAtRest, StandsAtCount, StandsBetween, stands};
 ghost use Rattle.session.specs.Inputs.{can_be_logged, entry_of, inputs_of, no_input};
 ghost use Rattle.session.specs.Resting.{IsOfItsRom, own_prop, RestsUnlessBroken, rests_prop};
 ghost use Rattle.session.specs.declared.error.SessionError.TheVariants.{Memory};
@@ -19,7 +19,7 @@ use crate::error::{Damage, SessionError};
 use crate::save::{push, write_pending};
 use cartridge::Cartridge;
 use machine::{Input, Machine};
-use sector_device::SectorDevice;
+use sector_device::{HandingDevice, SectorDevice};
 use sector_log::{Entry, Store};
 use snapshot::{decode_into, powered};
 use std::alloc::Global;
@@ -128,14 +128,16 @@ impl<D: SectorDevice> Session<D> {
         &self.pending
     }
 
-    /// A read-only view of the device. Unless the session is broken, every image of it stands for
-    /// the saved inputs; what they lead to with the unsaved ones is said where these can be logged.
+    /// A read-only view of the device. Unless the session is broken, its one image stands for the saved inputs, whatever the unsaved ones are;
+    /// what they lead to with the unsaved ones is said where these can be logged.
     pub fn device(&self) -> &D
         ensures device { result.now ≡ device_of self.now }
         ensures rests { is_broken self.now ≡ false → can_be_logged (pending_of self.now) ≡ true →
             (D.disk (device_of self.now)).honest →
             IsAtRest (rom_of self.now) (D.disk (device_of self.now)) (acknowledged_of self.now) (pending_of self.now)
             (machine_of self.now) }
+        ensures counts { is_broken self.now ≡ false → (D.disk (device_of self.now)).honest →
+            StandsAtCount (rom_of self.now) (D.disk (device_of self.now)) (acknowledged_of self.now) }
     {
         self.store.device()
     }
@@ -295,6 +297,8 @@ impl<D: SectorDevice> Session<D> {
             (D.disk (device_of self.old)).honest →
             IsAtRest (rom_of self.old) (D.disk (device_of self.old)) (acknowledged_of self.old) (pending_of self.old)
             (machine_of self.old) }
+        ensures counts { is_broken self.old ≡ false → (D.disk (device_of self.old)).honest →
+            StandsAtCount (rom_of self.old) (D.disk (device_of self.old)) (acknowledged_of self.old) }
         ensures images { is_broken self.old ≡ false → (D.disk (device_of self.old)).honest →
             HoldsSince (D.disk (device_of self.old)) (D.disk (device_of self.new))
             (StandsBetween (can_be_logged (pending_of self.old)) (rom_of self.old)
@@ -339,6 +343,8 @@ impl<D: SectorDevice> Session<D> {
         ensures device { result ≡ device_of self }
         ensures rests { is_broken self ≡ false → can_be_logged (pending_of self) ≡ true → (D.disk result).honest →
             IsAtRest (rom_of self) (D.disk result) (acknowledged_of self) (pending_of self) (machine_of self) }
+        ensures counts { is_broken self ≡ false → (D.disk result).honest →
+            StandsAtCount (rom_of self) (D.disk result) (acknowledged_of self) }
     {
         self.store.into_device()
     }
@@ -352,5 +358,18 @@ impl<D: SectorDevice + Drop> Session<D> {
         ensures { result ≡ machine_of self }
     {
         self.machine
+    }
+}
+
+impl<D: HandingDevice> Session<D> {
+    ghost use Rattle.session.specs.Accessors.{device_of, KeepsAllBut};
+
+    /// Hands out the next call that the device noted, if there is one. Nothing changes of the session, nor of what its device stands for.
+    pub fn next_call(&mut self) -> Option<D::Call>
+        ensures hands { D.hands (device_of self.old) result (device_of self.new) }
+        ensures disk { HasHanded (D.disk (device_of self.old)) (D.disk (device_of self.new)) }
+        ensures kept { KeepsAllBut self.old self.new }
+    {
+        self.store.next_call()
     }
 }

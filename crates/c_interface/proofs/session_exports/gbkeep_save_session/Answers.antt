@@ -3,7 +3,7 @@ use Rattle.sector_device.specs.Runs.{HoldsSince}
 use Rattle.log_format.specs.Content.{content}
 use Rattle.session.specs.Accessors.{device_of, machine_of, rom_of, pending_of, acknowledged_of, is_broken}
 use Rattle.session.specs.Inputs.{can_be_logged, inputs_of}
-use Rattle.session.specs.Stands.{stands, StandsBetween}
+use Rattle.session.specs.Stands.{stands, StandsAtCount, StandsBetween}
 use Rattle.embedding.specs.HostDevices.{host_disk}
 use Rattle.embedding.specs.declared.game.Game.{Game}
 use Rattle.c_interface.proofs.session_exports.gbkeep_save_session.Goals as goal
@@ -18,3 +18,8 @@ returns-clause-images c = λ whole.
     (subst (λ (g : Game). is_broken g.session ≡ false → HoldsSince (host_disk (device_of g.session)) (host_disk (device_of c.save.new.self.session))
     (StandsBetween (can_be_logged (pending_of g.session)) (rom_of g.session) (stands (rom_of g.session) (content (host_disk (device_of g.session)).sectors)) (inputs_of (pending_of g.session))
     (record { count = acknowledged_of g.session + length (pending_of g.session); machine = machine_of g.session }))) old c.save.ensures.images whole)
+
+pub returns-clause-counts : goal.returns-clause-counts
+returns-clause-counts c =
+    let old : c.deref_mut.result.now ≡ c.args.session.value = c.deref_mut.ensures.value ∙ c.into_box-game.ensures in
+    subst (λ (g : Game). is_broken g.session ≡ false → StandsAtCount (rom_of g.session) (host_disk (device_of g.session)) (acknowledged_of g.session)) old c.save.ensures.counts

@@ -71,3 +71,7 @@ returns-in-Err-catch_up-clause-stops g c =
 pub returns-in-Err-catch_up-clause-save_answered : goal.returns-in-Err-catch_up-clause-save_answered
 returns-in-Err-catch_up-clause-save_answered g c =
     rw c.into_device-in-Err-catch_up.ensures.device (answered_refused c.in-Ok.ensures.answered c.in-Err-catch_up.ensures.fails.save_calls (λ n. refl))
+
+pub returns-in-Err-catch_up-clause-recording_answered : goal.returns-in-Err-catch_up-clause-recording_answered
+returns-in-Err-catch_up-clause-recording_answered g c =
+    rw c.into_device-in-Err-catch_up-2.ensures (answered_error c.in-Err-catch_up.ensures.fails.recording_calls (λ n. refl))

@@ -3,7 +3,7 @@ use Rattle.std.proofs.lemmas.List.{take_all, drop_all, drop-drop}
 use Rattle.std.proofs.lemmas.Bool.{cases_lt}
 use Rattle.sector_device.specs.DiskState.{sector_at}
 use Rattle.sector_device.specs.Runs.{Mixed, WrittenUpTo}
-use Rattle.sector_device.proofs.Runs.{one_more, begun, has_written, mixed_old, mixed_set, written_more, written_all}
+use Rattle.sector_device.proofs.Runs.{none_called, one_more, begun, has_written, mixed_old, mixed_set, written_more, written_all}
 use Rattle.input_entries.specs.declared.Entry.{Entry}
 use Rattle.input_entries.specs.declared.StoredEntry.{StoredEntry}
 use Rattle.recording.specs.Format.{list_sector}
@@ -26,7 +26,7 @@ loop-done-init g c =
     let new = grown_image c.args.full list s in
     let none : 83 * (c.args.full - c.args.full) ≡ 0 = omega arith in
     record {
-      called = record { count = refl; faults = refl; honest = (λ h. h, λ h. h) };
+      called = none_called;
       capacity = omega arith;
       later = omega arith;
       short = c.requires.short;

@@ -1,3 +1,4 @@
+use Rattle.sector_device.specs.DiskState.{Follows}
 use Rattle.std.proofs.Common.{◌≡◌, ◌≤◌, ◌<◌, ◌^◌, ℕ, List, length, drop, inl, inr, ⊎_elim, refl, sym, ap, ◌∙◌, subst, arith}
 use Rattle.std.specs.Prelude.{◌↔◌}
 use Rattle.sha2.specs.Sha256.{sha256}
@@ -67,6 +68,8 @@ returns-in-Err-clause-answered g c = record {
   faults_ok = c.in-Err.ensures.answered.faults_ok;
   faults = c.in-Err.ensures.answered.faults ∙ same_faults c.in-Err.refused.why (g.D.SectorDevice.disk (device_under c.args.opened)).faults
       ∙ ap (λ fault. faults_after fault (g.D.SectorDevice.disk (device_under c.args.opened)).faults) (sym c.fault_of.ensures);
+  follows = c.in-Err.ensures.answered.follows;
+  handed = c.in-Err.ensures.answered.handed;
 }
 
 pub returns-in-Ok-clause-begun : goal.returns-in-Ok-clause-begun
@@ -94,6 +97,8 @@ returns-in-Ok-clause-answered g c =
       honest = subst (λ d. (disk d).honest ↔ (disk (device_under c.args.opened)).honest) (sym device) answered.honest;
       faults_ok = ap (λ d. (disk d).faults) device ∙ answered.faults_ok;
       faults = tt;
+      follows = subst (λ d. Follows (disk (device_under c.args.opened)).calls (disk d).calls) (sym device) answered.follows;
+      handed = ap (λ d. (disk d).handed) device ∙ answered.handed;
     }
 
 pub returns-in-Err-clause-untouched : goal.returns-in-Err-clause-untouched

@@ -1,13 +1,14 @@
-use Rattle.std.proofs.Common.{◌≡◌, ◌+◌, ◌*◌, ◌<◌, ℕ, List, [], length, false, sym, ap, ◌∙◌, subst, arith}
+use Rattle.std.proofs.Common.{◌≡◌, ◌+◌, ◌*◌, ◌<◌, ℕ, List, [], length, sym, ap, ◌∙◌, subst, arith}
 use Rattle.std.specs.Prelude.{Some, slice_range}
 use Rattle.sector_device.specs.DiskState.{sector_at}
 use Rattle.log_format.specs.Content.{content, generation_in}
-use Rattle.session.specs.Accessors.{device_of, machine_of, rom_of, pending_of, acknowledged_of, is_broken}
+use Rattle.session.specs.Accessors.{device_of, machine_of, acknowledged_of}
 use Rattle.session.specs.Found.{IsResumeCause}
 use Rattle.session.specs.Stands.{IsAtRest, stands}
-use Rattle.session.proofs.Beginnings.{if_err, if_ok}
-use Rattle.embedding.specs.Games.{AreSectorsOf, IsFrom, IsTakeUpCause}
+use Rattle.embedding.specs.Calls.{image_calls}
+use Rattle.embedding.specs.Games.{AreSectorsOf}
 use Rattle.embedding.specs.HostDevices.{count_of, host_disk}
+use Rattle.embedding.proofs.Counting.{handed_same, same_count}
 use Rattle.embedding.specs.declared.host_device.HostDevice.{HostDevice}
 use Rattle.embedding.proofs.game.Game.resume.Goals as goal
 
@@ -22,40 +23,45 @@ sectors_are image device count is size each =
 pub returns-in-Ok-resume-clause-begun : goal.returns-in-Ok-resume-clause-begun
 returns-in-Ok-resume-clause-begun c =
     let begun = c.in-Ok-resume.ensures.begun in
-    if_ok c.of.result c.of.ensures.session
-    (λ g is. subst (λ s. (pending_of s ≡ []) × (is_broken s ≡ false) × (rom_of s ≡ c.args.rom.now)) (sym is) (begun.0, begun.1, begun.2 ∙ c.in-Ok.ensures.image))
+    (begun.0, begun.1, begun.2 ∙ c.in-Ok.ensures.image)
 
 pub returns-in-Ok-resume-clause-rests : goal.returns-in-Ok-resume-clause-rests
 returns-in-Ok-resume-clause-rests c =
-    if_ok c.of.result c.of.ensures.session
-    (λ g is. subst (λ s. IsAtRest c.args.rom.now (host_disk (device_of s)) (acknowledged_of s) [] (machine_of s)) (sym is)
-    (subst (λ (rom : List ℕ). IsAtRest rom (host_disk (device_of c.in-Ok-resume.session)) (acknowledged_of c.in-Ok-resume.session) [] (machine_of c.in-Ok-resume.session)) c.in-Ok.ensures.image
-    (c.in-Ok-resume.ensures.rests tt)))
+    subst (λ (rom : List ℕ). IsAtRest rom (host_disk (device_of c.in-Ok-resume.session)) (acknowledged_of c.in-Ok-resume.session) [] (machine_of c.in-Ok-resume.session)) c.in-Ok.ensures.image
+    (c.in-Ok-resume.ensures.rests tt)
 
 pub returns-in-Ok-resume-clause-from : goal.returns-in-Ok-resume-clause-from
 returns-in-Ok-resume-clause-from c =
-    let sectors = (host_disk c.write_image.new.device).sectors in
-    if_ok c.of.result c.of.ensures.session
-    (λ g is. subst (λ s. IsFrom c.args.rom.now c.args.image.now (acknowledged_of s) (machine_of s)) (sym is) (record {
+    let sectors = (host_disk c.fill_from.new.device).sectors in
+    record {
       sectors = sectors;
-      are = sectors_are c.args.image.now c.write_image.new.device (count_of c.in-Ok-new.device) c.in_default-write_image.ensures.count
-          (omega (arith, c.in-Ok-new.ensures.count, c.if-image-ne0.false)) c.in_default-write_image.ensures.sectors;
+      are = sectors_are c.args.image.now c.fill_from.new.device (count_of c.in-Ok-new.device) c.fill_from.ensures.count
+          (omega (arith, c.in-Ok-new.ensures.count, c.if-image-ne0.false)) c.fill_from.ensures.sectors;
       stood = subst (λ (rom : List ℕ). stands rom (content sectors) ≡ Some (record { count = acknowledged_of c.in-Ok-resume.session; machine = machine_of c.in-Ok-resume.session })) c.in-Ok.ensures.image
           (c.in-Ok-resume.ensures.stands tt);
-    }))
-
-pub returns-in-Ok-resume-clause-cause : goal.returns-in-Ok-resume-clause-cause
-returns-in-Ok-resume-clause-cause c =
-    if_err c.of.result c.of.ensures.cause (λ why is. subst (IsTakeUpCause c.args.rom.now c.args.image.now) (sym is) tt)
+    }
 
 pub returns-in-Err-resume-clause-cause : goal.returns-in-Err-resume-clause-cause
 returns-in-Err-resume-clause-cause c =
-    let sectors = (host_disk c.write_image.new.device).sectors in (
+    let sectors = (host_disk c.fill_from.new.device).sectors in (
       c.in-Ok.ensures.accepted,
       record {
         sectors = sectors;
-        are = sectors_are c.args.image.now c.write_image.new.device (count_of c.in-Ok-new.device) c.in_default-write_image.ensures.count
-            (omega (arith, c.in-Ok-new.ensures.count, c.if-image-ne0.false)) c.in_default-write_image.ensures.sectors;
+        are = sectors_are c.args.image.now c.fill_from.new.device (count_of c.in-Ok-new.device) c.fill_from.ensures.count
+            (omega (arith, c.in-Ok-new.ensures.count, c.if-image-ne0.false)) c.fill_from.ensures.sectors;
         cause = subst (λ (rom : List ℕ). IsResumeCause rom (generation_in sectors) (content sectors) c.in-Err-resume.refused.why) c.in-Ok.ensures.image (c.in-Err-resume.ensures.cause tt);
       },
     )
+
+pub returns-in-Ok-resume-clause-sectors : goal.returns-in-Ok-resume-clause-sectors
+returns-in-Ok-resume-clause-sectors c =
+    let count = same_count c.fill_from.new.device (device_of c.in-Ok-resume.session) c.in-Ok-resume.ensures.answered.count in
+    omega (arith, count, c.fill_from.ensures.count, c.in-Ok-new.ensures.count, c.if-image-ne0.false)
+
+pub returns-in-Ok-resume-clause-handed : goal.returns-in-Ok-resume-clause-handed
+returns-in-Ok-resume-clause-handed c =
+    let device = c.fill_from.new.device in
+    let now = device_of c.in-Ok-resume.session in
+    let answered = c.in-Ok-resume.ensures.answered in
+    handed_same device now answered.follows answered.handed ∙ c.fill_from.ensures.handed
+    ∙ ap (image_calls c.args.image.now) (sym (same_count device now answered.count ∙ c.fill_from.ensures.count))

@@ -2,7 +2,7 @@ use Rattle.std.proofs.Common.{rules, ◌≡◌, ◌≤◌, ◌<◌, ◌+◌, ◌
 use Rattle.std.proofs.lemmas.Bool.Decides.{nat_tests}
 use Rattle.sector_device.specs.DiskState.{DiskState, Settled, HasSynced, sector_at}
 use Rattle.sector_device.specs.Runs.{HoldsThroughout, HoldsSince, Mixed, WrittenUpTo}
-use Rattle.sector_device.proofs.Runs.{has_synced}
+use Rattle.sector_device.proofs.Runs.{has_synced, follows_then}
 use Rattle.input_entries.specs.declared.StoredEntry.{StoredEntry}
 use Rattle.input_entries.specs.Inputs.{inputs}
 use Rattle.input_entries.proofs.CodeLengths.{entries_of_each}
@@ -154,6 +154,16 @@ returns-clause-images g c = λ _ honest. (since_sync g (goal.at.returns-clause-i
 
 pub returns-clause-writes : goal.returns-clause-writes
 returns-clause-writes g c = λ _ honest. (since_sync g (goal.at.returns-clause-writes g c).After-write_log c.sync_once.ensures.synced honest).1
+
+pub returns-clause-answered : goal.returns-clause-answered
+returns-clause-answered g c = record {
+  count = search rules;
+  honest = search rules;
+  faults_ok = search rules;
+  faults = search rules;
+  follows = follows_then c.write_log.ensures.called.follows c.sync_once.ensures.called.follows;
+  handed = search rules;
+}
 
 pub invariant_of-self : goal.invariant_of-self
 invariant_of-self g c =

@@ -28,8 +28,10 @@ invariant_of-self-clause-own g c =
 
 pub invariant_of-self-clause-rests : goal.invariant_of-self-clause-rests
 invariant_of-self-clause-rests g c = λ whole honest.
+    let of = subst (IsMachineOf c.args.cartridge.now) (sym c.replace.ensures.after) c.in-Ok.ensures.of in
     rests_otherwise (g.D.SectorDevice.disk (device_of_store c.args.self.now.store)) (entries_of c.args.self.now.store) c.args.self.now.acknowledged c.args.self.now.pending.items c.push.new.entries.items
     c.no_input.result c.args.self.now.machine c.replace.new.dest (c.args.self.now.rests whole honest) c.push.ensures.items c.no_input.ensures
+    (of.rom ∙ sym c.requires)
 
 pub returns-in_default-powered-clause-answer : goal.returns-in_default-powered-clause-answer
 returns-in_default-powered-clause-answer g c = inr (refl, sym c.takes_input.ensures.answer ∙ c.in_default.is)

@@ -38,6 +38,7 @@ pub invariant_of-self-clause-rests : goal.invariant_of-self-clause-rests
 invariant_of-self-clause-rests g c = λ whole honest.
     rests_otherwise (g.D.SectorDevice.disk (device_of_store c.args.self.now.store)) (entries_of c.args.self.now.store) c.args.self.now.acknowledged c.args.self.now.pending.items c.push.new.entries.items
     c.no_input.result c.args.self.now.machine c.decode_into.new.machine (c.args.self.now.rests whole honest) c.push.ensures.items c.no_input.ensures
+    (c.in-Ok.ensures.ok.0.rom ∙ sym c.requires)
 
 pub returns-in-Ok-clause-answer : goal.returns-in-Ok-clause-answer
 returns-in-Ok-clause-answer g c =

@@ -1,0 +1,6 @@
+pub mod Lines
+pub mod Clocks
+pub mod Lives
+pub mod Laws
+pub mod Openings
+pub mod Texts

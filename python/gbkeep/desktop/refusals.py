@@ -1,0 +1,122 @@
+"""Refusals in words for players: what happened, and then which file it is about and what to do."""
+import re
+from dataclasses import dataclass
+from typing import Optional
+
+from ..input_files import MOST_LINE, WrongInput, printable, reason
+from ..machines import MissingProgram, Refused
+from ..new_files import Unsafe
+from ..slots import NotReplaced, short
+from ..timed_game import WrongTime
+from ..tools import Failed
+from .actions import WrongKeys
+
+
+@dataclass(frozen=True)
+class Told:
+    """What happened, in a line, and what to do about it; `line` is what a terminal is told."""
+    head: str
+    body: str = ''
+    line: str = ''
+
+    def in_a_line(self) -> str:
+        return self.line or printable(f'gbkeep-window: {self.head}: {self.body}' if self.body else f'gbkeep-window: {self.head}', MOST_LINE)
+
+
+class Stopped(Exception):
+    """The window refuses of itself."""
+
+    def __init__(self, told: Told):
+        super().__init__(told.head)
+        self.told = told
+
+
+# of the program's lines: what happened, and the rest, where CART, SAVE and RECORDING stand for names, and N and M for the numbers of the line
+PROGRAM = (
+    (r'rom length ([0-9]+)', 'CART is no whole Game Boy game', 'A cartridge has 32 KiB, or that times 2, 4 and so on, up to 8 MiB. This file has N bytes. Take a complete copy of it.'),
+    (r'cartridge type ([0-9A-F]{2})', 'CART can\'t be played here', 'Its cartridge has a part that this emulator does not have (type N), as a camera or a sensor. Choose another game.'),
+    (r'ram code [0-9A-F]{2}', 'CART is damaged', 'It asks for memory that no cartridge has. Take a complete copy of it.'),
+    (r'too many banks [0-9]+', 'CART was altered', 'It is larger than its cartridge can be. Take another copy of it.'),
+    (r'no memory', 'There is no memory left', 'What was saved stays saved. End other programs, and open the game again.'),
+    (r'device size ([0-9]+)', 'SAVE is no whole save file', 'It has N bytes, and was cut short, or it is another kind of file. Take a backup of it: SAVE.before, a state, or a copy.'),
+    (r'too small, [0-9]+ sectors needed', 'SAVE was cut short', 'Part of the game is missing in it. Take a backup of it: SAVE.before, a state, or a copy.'),
+    (r'no battery', 'CART keeps nothing', 'Its cartridge has no battery, so there is nothing to begin with. Open it without the file.'),
+    (r'battery length ([0-9]+), ([0-9]+) needed', 'The battery file is of another game', 'It has N bytes, and CART keeps M. Choose the file of this game.'),
+    (r'no session', 'SAVE is no save file of gbkeep', 'If it is a battery file of another emulator, open it together with its cartridge, and a game begins with it.'),
+    (r'other cartridge', 'SAVE is of another game', 'It was begun with another cartridge than CART, or with another version of it. Open that one.'),
+    (r'damaged (?:count|snapshot|entry [0-9]+)', 'SAVE is damaged', 'Nothing was written to it. Take a backup of it: SAVE.before, a state, or a copy.'),
+    (r'no recording', 'RECORDING is no recording', 'Name the one that belongs to the game.'),
+    (r'recording behind, ([0-9]+) inputs', 'The recording lags behind the game', 'RECORDING lacks inputs that SAVE has: something else has played it. Take the recording that belongs to it.'),
+    (r'recording ahead, ([0-9]+) inputs', 'The recording is ahead of the game', 'RECORDING has inputs that SAVE lacks. Take the two files that belong together.'),
+    (r'(?:machines differ|other recording)', 'The recording is of another play', 'RECORDING does not lead to the game in SAVE. Take the two files that belong together.'),
+    (r'recorded game: play it by record', 'SAVE is a recorded game', 'It is played together with its recording alone.'),
+    (r'recording full', 'The recording is full', 'What was saved stays saved. Lengthen it by `truncate -s +1M RECORDING`, and go on.'),
+    (r'a word is not text', 'The name of a file can\'t be used', 'It has letters that are no text here. Give the file another name.'),
+    (r'the program ended with status .*', 'The program that keeps the game was ended', 'What was saved stays saved. Open the game again.'),
+)
+
+
+def told_of(error: BaseException, cart: Optional[object] = None, save: Optional[object] = None, recording: Optional[object] = None, line: str = '') -> Told:
+    """What a person is told of an error in a play of these files."""
+    names = {'CART': short(cart) if cart else 'The file', 'SAVE': short(save) if save else 'The save file', 'RECORDING': short(recording) if recording else 'The recording'}
+    if isinstance(error, Stopped):
+        return error.told
+    if isinstance(error, MissingProgram):
+        return Told('gbkeep can\'t be started', sentences(error.line, error.advice), error.told())
+    if isinstance(error, Refused):
+        return of_program(error, names, {'CART': cart, 'SAVE': save, 'RECORDING': recording})
+    if isinstance(error, WrongKeys):
+        return Told('The file of keys is wrong', sentences(str(error), 'Mend that line, or start without --keys'), printable(error, MOST_LINE))
+    if isinstance(error, (WrongInput, WrongTime, Failed, NotReplaced, Unsafe)):
+        return Told(*of_file(str(error)), printable(error, MOST_LINE))
+    if isinstance(error, MemoryError):
+        return Told('There is no memory left', 'What was saved stays saved. End other programs, and open the game again.', 'gbkeep-window: no memory')
+    if isinstance(error, OSError):
+        name = f'{printable(error.filename)}: ' if error.filename else ''
+        return Told('A file can\'t be used', sentences(name + reason(error)), f'gbkeep-window: {name}{reason(error)}')
+    return Told('Something went wrong', sentences(printable(f'{type(error).__name__}: {error}')))
+
+
+def of_program(refused: Refused, names: dict[str, str], paths: dict[str, object]) -> Told:
+    line = refused.line.removeprefix('gbkeep: ')
+
+    def named(text: str, groups: tuple[str, ...] = ()) -> str:
+        for sign, group in zip('NM', groups):
+            text = re.sub(rf'\b{sign}\b', f'{int(group):,}' if group.isdigit() else group, text)
+        return re.sub(r'\b(CART|SAVE|RECORDING)\b', lambda found: names[found[1]], text)
+    if line == 'device failed':
+        return of_device(refused, names, paths)
+    if line == 'file failed':
+        return Told(named('CART can\'t be read'), f'{printable(paths["CART"])} is missing, no plain file, or may not be read. Choose it again.', refused.told())
+    for pattern, head, body in PROGRAM:
+        found = re.fullmatch(pattern, line)
+        if found:
+            return Told(named(head), named(body, found.groups()), refused.told())
+    return Told(sentences(line).rstrip('.'), sentences(refused.means, refused.advice), refused.told())
+
+
+def of_device(refused: Refused, names: dict[str, str], paths: dict[str, object]) -> Told:
+    if refused.means.endswith('exists already'):
+        return Told(f'{names["SAVE"]} exists already', 'A game is not begun over another one. Open that one, or take a name that is free.', refused.told())
+    if "can't be made" in refused.means:
+        return Told('No save file can be made', f'{printable(paths["SAVE"])} can\'t be made there. Take a folder that is there and that you may write.', refused.told())
+    return Told(f'{names["SAVE"]} can\'t be opened or written', 'This game may be open in another window. Else look at the disk and at who may write '
+                f'{printable(paths["SAVE"])}. What was saved stays saved.', refused.told())
+
+
+def of_file(line: str) -> tuple[str, str]:
+    """A line as `NAME: what is wrong: what to do`."""
+    name, colon, rest = line.partition(': ')
+    if not colon:
+        return sentences(line).rstrip('.'), ''
+    return f'{name.rsplit("/", 1)[-1]} can\'t be used', sentences(f'{name}: {rest}')
+
+
+def sentences(*texts: str) -> str:
+    """Texts as sentences. A first word that is a name stays as it is."""
+    made = []
+    for text in filter(None, texts):
+        first = text.split(' ', 1)[0]
+        text = text if re.search(r'[./:\\_0-9]', first) else text[:1].upper() + text[1:]
+        made.append(text if text.endswith(('.', '?')) else f'{text}.')
+    return ' '.join(made).replace('`', '')
