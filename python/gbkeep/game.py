@@ -112,12 +112,25 @@ def starting(program: PathLike) -> Iterator[None]:
         raise Refused(f'a word is no name: {error}', '') from None
 
 
-def started(words: list[str], **how: object) -> subprocess.Popen:
+class Process(subprocess.Popen):
+    """A process that does not go on where its start is broken off, as by a signal: its program may run by then."""
+
+    def __init__(self, words: list[str], **how: object):
+        try:
+            super().__init__(words, **how)
+        except BaseException:
+            if getattr(self, 'pid', None) is not None:
+                self.kill()
+                self.wait()
+            raise
+
+
+def started(words: list[str], **how: object) -> Process:
     """A process, of a program that can be run."""
     # no pipe to it is a stream that something else writes to
     take_streams()
     with starting(words[0]):
-        return subprocess.Popen(words, **how)
+        return Process(words, **how)
 
 
 def run(program: str, command: str, *words: str, **how: object) -> str:

@@ -13,10 +13,11 @@ import shutil
 import subprocess
 import sys
 from pathlib import Path
+from unittest import mock
 
 import gbkeep
 from gbkeep.faults import explained
-from gbkeep.game import PICTURE_HEAD, bytes_of
+from gbkeep.game import PICTURE_HEAD, bytes_of, started
 from gbkeep.library import advice_of
 from gbkeep.machines import number, room_of
 from gbkeep_tests import support
@@ -191,6 +192,15 @@ def test_missing(folder):
     expect('no numpy', (status, out, 'python3-numpy' in err, err.count('\n')), (1, '', True, 1))
     status, out, err = ran([sys.executable, '-S', '-B', '-c', 'import gbkeep.env'], PYTHONPATH=str(SOURCES))
     expect('no numpy for what takes it', (status, out, 'python3-numpy' in err.splitlines()[-1]), (1, '', True))
+
+
+def test_broken_off(folder):
+    """A process does not go on where its start is broken off."""
+    made(folder / 'program', '#!/bin/sh\nexec sleep 60\n')
+    for fault, refusal in ((OSError(5, 'Input/output error'), gbkeep.MissingProgram), (KeyboardInterrupt(), KeyboardInterrupt)):
+        with mock.patch('subprocess.os.read', side_effect=fault):
+            expect(f'{fault!r}', support.refusal(lambda: started([str(folder / 'program')]), refusal) is not None, True)
+        expect(f'a process behind {fault!r}', support.refusal(lambda: os.waitpid(-1, os.WNOHANG), ChildProcessError) is not None, True)
 
 
 class Index:
