@@ -1,14 +1,19 @@
 #!/usr/bin/env python3
 """Tries wrong bodies on a copy of the repository: a proof has to refuse each, at a goal that stays open.
 
-usage: scripts/edits.py [CRATE | CRATE/EDIT]...    (no word: every crate; EDIT without .edit)
+usage: scripts/edits.py [CRATE | CRATE/NAME]...    (no word: every crate)
        scripts/edits.py --apply                    (tries none, and says in a second which no longer apply to the text)
 
-The edits are those of crates/CRATE/must-fail and crates/CRATE/wrong-bodies. An edit counts only if it changes src/ and
-leaves a goal open: one that no proof was found for, or whose answer in a proof file no longer proves it. One that is
-proved, that no longer applies, that does not compile, or that is refused only because a proof file names what is gone,
-shows nothing, and fails this run. $RT is the command `rt`.
+The edits are those of crates/CRATE/must-fail/NAME.edit, and those of crates/CRATE/wrong-bodies/FILE.rt.toml: the wrong
+bodies of src/FILE.rt, a table [NAME] each, with `old` (text that stands once in the file), `new`, further pairs in
+[[NAME.then]], and from the last try `refused`, the goal, and `digest`, that of the function as it was then: another
+digest says that the body is to be tried again. A run writes these two.
+
+An edit counts only if it changes src/ and leaves a goal open: one that no proof was found for, or whose answer in a
+proof file no longer proves it. One that is proved, that no longer applies, that does not compile, or that is refused
+only because a proof file names what is gone, shows nothing, and fails this run. $RT is the command `rt`.
 """
+import hashlib
 import os
 import re
 import shutil
@@ -16,11 +21,15 @@ import subprocess
 import sys
 import tempfile
 import time
+import tomllib
+from dataclasses import dataclass
 from pathlib import Path
 
 ROOT = Path(__file__).resolve().parent.parent
 RT = os.environ.get("RT", "rt")
-PLACES = ("must-fail", "wrong-bodies")
+# the end of a file of wrong bodies, and of an edit that the toolchain reads
+TABLE, EDIT = ".rt.toml", ".edit"
+DIGITS, MOST_GOAL = 16, 300
 
 AT_PLACE = re.compile(r"(?:\./)?(\S+?):\d+:\d+: error(?:\[[\w-]+\])?: (.*)")
 OPEN_GOAL = re.compile(r"note: (src/\S+:\d+):\d+: (it is not proved that .*)")
@@ -28,6 +37,7 @@ FUNCTION = re.compile(r"fn [^:\s]+::(\S+): (not proved|no proof: .*)")
 IS_GONE = re.compile(r"has no `|has no field|is not in scope|is no name|^`\S+`: record `\S+` \(nearest: ")
 CLAUSE = re.compile(r"`(\S+?)-clause-\S+`")
 UNCOVERED = re.compile(r"the borrow checker does not cover")
+BEGINS = re.compile(r"( *)(?:pub(?:\([a-z]+\))? )?(?:const |unsafe |extern \"C\" )*fn ")
 UNPROVED = re.compile(r"`[\w-]+`: `search`: no proof of |`[\w-]+-value`: (as printed|computed), ")
 FOLLOWS = re.compile(r"which was (?:rejected|not admitted)|no proof: it calls")
 
@@ -62,25 +72,97 @@ def copy_repository(names, to):
     shutil.copytree(ROOT, to, ignore=left_out, dirs_exist_ok=True)
 
 
-def edited(edit, crate):
-    """Returns the text of each file that the edit changes."""
-    path, old, texts = None, None, {}
+@dataclass
+class Edit:
+    """A wrong body: pairs of a file below the crate, a text that stands once in it, and what stands there instead. `refused`
+    and `digest` are those of the last try; a must-fail edit has none."""
+    place: str
+    name: str
+    pairs: list
+    refused: str = ""
+    digest: str = ""
+
+    def is_stale(self, crate):
+        return bool(self.digest) and self.digest != self.digest_of(crate)
+
+    def digest_of(self, crate):
+        """Of the function that it changes first, with its contract; of the file where that text stands in none."""
+        path, old, _ = self.pairs[0]
+        return hashlib.sha256(part_of((crate / path).read_text(), old).encode()).hexdigest()[:DIGITS]
+
+
+def part_of(text, old):
+    """The function of a text in which `old` stands, or the whole text."""
+    lines, at = text.split("\n"), text[:text.find(old)].count("\n")
+    for first in range(at, -1, -1):
+        begins = BEGINS.match(lines[first])
+        if begins:
+            end = next((number for number in range(first, len(lines)) if lines[number] == f"{begins[1]}}}"), -1)
+            return "\n".join(lines[first:end + 1]) if end >= at else text
+    return text
+
+
+def pairs_of(edit):
+    """The pairs of an edit that the toolchain reads."""
+    path, old, pairs = None, None, []
     for line in edit.read_text().splitlines():
         word, _, text = line.partition(":")
         text = text[1:] if text.startswith(" ") else text
         if word == "file":
-            path = crate / text.strip()
-            if path.parts[len(crate.parts)] != "src" or not path.is_file():
-                raise ShowsNothing(f"no body is changed: {text} is no file of src/")
+            path = text.strip()
         elif word == "old":
             old = text
         elif word == "new":
-            if path is None or not old:
-                raise ShowsNothing("a line 'new:' comes before 'file:' and 'old:'")
-            before = texts.get(path) or path.read_text()
-            if before.count(old) != 1:
-                raise ShowsNothing(f"does not apply: its text is {before.count(old)} times in {path.relative_to(crate)}")
-            texts[path], old = before.replace(old, text), None
+            pairs.append((path, old, text))
+            old = None
+    return pairs
+
+
+def wrong_bodies(crate):
+    """The tables of a crate, by their files."""
+    found = {}
+    for file in sorted((crate / "wrong-bodies").rglob(f"*{TABLE}")):
+        source = f"src/{file.relative_to(crate / 'wrong-bodies')}".removesuffix(".toml")
+        found[file] = [Edit("wrong-bodies", name, [(source, one["old"], one["new"]) for one in (row, *row.get("then", ()))], row.get("refused", ""), row.get("digest", ""))
+                       for name, row in tomllib.loads(file.read_text()).items()]
+    return found
+
+
+def quoted(text):
+    """A string of TOML, as it is where it can be."""
+    if "'" not in text:
+        return f"'{text}'"
+    if "\\" not in text and '"' not in text:
+        return f'"{text}"'
+    return f"'''{text}'''" if "'''" not in text and not text.endswith("'") else '"' + text.replace("\\", "\\\\").replace('"', '\\"') + '"'
+
+
+def written(edits):
+    """The text of a file of wrong bodies."""
+    parts = []
+    for edit in edits:
+        rows = [f"[{edit.name}]"]
+        for number, (_, old, new) in enumerate(edit.pairs):
+            rows += [f"[[{edit.name}.then]]"] * (number > 0) + [f"old = {quoted(old)}", f"new = {quoted(new)}"]
+            if number == 0 and edit.refused:
+                rows += [f"refused = {quoted(edit.refused)}", f"digest = '{edit.digest}'"]
+        parts.append("\n".join(rows) + "\n")
+    return "\n".join(parts)
+
+
+def edited(edit, crate):
+    """Returns the text of each file that the edit changes."""
+    texts = {}
+    for name, old, new in edit.pairs:
+        path = crate / (name or "")
+        if not name or not old:
+            raise ShowsNothing("a line 'new:' comes before 'file:' and 'old:'")
+        if path.parts[len(crate.parts)] != "src" or not path.is_file():
+            raise ShowsNothing(f"no body is changed: {name} is no file of src/")
+        before = texts.get(path) or path.read_text()
+        if before.count(old) != 1:
+            raise ShowsNothing(f"does not apply: its text is {before.count(old)} times in {name}")
+        texts[path] = before.replace(old, new)
     if not texts:
         raise ShowsNothing("it has no pair of lines 'old:' and 'new:'")
     return texts
@@ -150,52 +232,66 @@ def try_edit(edit, crate, kept):
     return open_goal(said)
 
 
-def edits_of(crate, chosen):
-    found = [it for place in PLACES for it in sorted((crate / place).glob("*.edit"))]
-    lost = set(chosen) - {it.stem for it in found}
+def edits_of(crate, chosen=()):
+    found = [Edit("must-fail", it.stem, pairs_of(it)) for it in sorted((crate / "must-fail").glob(f"*{EDIT}"))]
+    found += [one for edits in wrong_bodies(crate).values() for one in edits]
+    lost = set(chosen) - {it.name for it in found}
     if lost:
         sys.exit(f"{crate.name} has no edit {min(lost)}")
-    return [it for it in found if not chosen or it.stem in chosen]
+    return [it for it in found if not chosen or it.name in chosen]
+
+
+def keep(crate, tried):
+    """Writes beside each wrong body that was tried which goal refused it."""
+    for file, edits in wrong_bodies(crate).items():
+        if not tried.keys().isdisjoint(one.name for one in edits):
+            for one in edits:
+                if one.name in tried:
+                    one.refused, one.digest = tried[one.name], one.digest_of(crate)
+            file.write_text(written(edits))
 
 
 def try_crate(crate, chosen):
-    """Returns how many edits were refused, and how many not."""
-    edits, refused = edits_of(crate, chosen), 0
+    """Returns the goals by which edits were refused, and how many were not."""
+    edits, refused = edits_of(crate, chosen), {}
     if not edits:
-        return 0, 0
+        return {}, 0
     is_proved, said = check(crate)
     if not is_proved:
         print(f"{crate.name}: it is not proved as it stands\n{said}", flush=True)
-        return 0, len(edits)
+        return {}, len(edits)
     kept = crate / "out/kept"
     shutil.copytree(crate / "out/incremental", kept)
     for edit in edits:
         start = time.monotonic()
         try:
-            why = try_edit(edit, crate, kept)
-            refused += 1
+            why = refused[edit.name] = try_edit(edit, crate, kept)[:MOST_GOAL]
         except ShowsNothing as error:
             why = f"SHOWS NOTHING: {error}"
         seconds = time.monotonic() - start
-        print(f"{crate.name}/{edit.parent.name}/{edit.stem} ({seconds:.0f} s): {why[:300]}", flush=True)
+        print(f"{crate.name}/{edit.place}/{edit.name} ({seconds:.0f} s): {why[:MOST_GOAL]}", flush=True)
     shutil.rmtree(crate / "out/incremental")
     kept.rename(crate / "out/incremental")
-    return refused, len(edits) - refused
+    return refused, len(edits) - len(refused)
 
 
 def apply_all():
-    """Returns 1 if some edit does not apply to the text as it stands."""
-    apply, lost = 0, []
-    for edit in sorted(it for place in PLACES for it in (ROOT / "crates").glob(f"*/{place}/*.edit")):
-        crate = edit.parent.parent
-        try:
-            unchanged = [path.name for path, text in edited(edit, crate).items() if path.read_text() == text]
-            if unchanged:
-                raise ShowsNothing(f"it leaves {unchanged[0]} as it is")
-            apply += 1
-        except ShowsNothing as error:
-            lost.append(f"{crate.name}/{edit.parent.name}/{edit.stem}: {error}")
-    print("\n".join([*lost, f"{apply} edits apply, {len(lost)} not"]))
+    """Returns 1 if some edit does not apply to the text as it stands, or a file is not as this script writes it."""
+    apply, stale, untried, lost = 0, 0, 0, []
+    for crate in sorted((ROOT / "crates").iterdir()):
+        for edit in edits_of(crate):
+            try:
+                unchanged = [path.name for path, text in edited(edit, crate).items() if path.read_text() == text]
+                if unchanged:
+                    raise ShowsNothing(f"it leaves {unchanged[0]} as it is")
+                apply += 1
+                stale += edit.is_stale(crate)
+                untried += edit.place == "wrong-bodies" and not edit.refused
+            except ShowsNothing as error:
+                lost.append(f"{crate.name}/{edit.place}/{edit.name}: {error}")
+        lost += [f"{file.relative_to(ROOT)} is not as a run writes it" for file, edits in wrong_bodies(crate).items() if file.read_text() != written(edits)]
+        lost += [f"{file.relative_to(ROOT)}: a wrong body stands in a table" for file in (crate / "wrong-bodies").rglob(f"*{EDIT}")]
+    print("\n".join([*lost, f"{apply} edits apply, {len(lost)} not; {untried} have no goal noted, and of {stale} the function has changed since"]))
     return 1 if lost else 0
 
 
@@ -212,8 +308,9 @@ def main():
     with tempfile.TemporaryDirectory(prefix="edits-") as room:
         copy_repository(with_those_below([*wanted], below), room)
         for name, chosen in wanted.items():
-            counts = try_crate(Path(room) / "crates" / name, chosen)
-            refused, shown_nothing = refused + counts[0], shown_nothing + counts[1]
+            goals, others = try_crate(Path(room) / "crates" / name, chosen)
+            keep(ROOT / "crates" / name, goals)
+            refused, shown_nothing = refused + len(goals), shown_nothing + others
     print(f"{refused} refused, {shown_nothing} not")
     return 1 if shown_nothing else 0
 
