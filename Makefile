@@ -22,7 +22,7 @@ SOURCES := crates.txt $(shell find crates -name out -prune -o -type f \( -name '
 LOOK := $(if $(findstring q,$(firstword -$(MAKEFLAGS))),,looked)
 
 help:
-	@echo 'To have it and to play (in a browser, at http://localhost:8000, with nothing'
+	@echo 'To install and to play (in a browser, at http://localhost:8000, with nothing'
 	@echo 'built: python3 -m http.server -d web/page 8000):'
 	@echo '  make build      proves the program and leaves it at bin/gbkeep: 47 minutes'
 	@echo '                  from nothing with two processors, 48 with four, 87 with one'

@@ -109,7 +109,7 @@ def command(packages, *names):
 
 NEEDS = {
     'rt': Need('', lambda: found(word('RT', 'rt')),
-               "the command of Rattle's toolchain, a folder that is not part of Debian (README.md, To have it); RT=PATH names it"),
+               "the command of Rattle's toolchain, a folder that is not part of Debian (README.md, Install); RT=PATH names it"),
     'clang of rt': Need('', lambda: in_kit('bin/rattle', 'toolchain/bin/clang', 'toolchain/bin/ld.lld'),
                         "the compiler in the folder of Rattle's toolchain, which is not whole"),
     'cc': Need('gcc libc6-dev', compiles, 'CC=NAME names another compiler', 'or it finds no C library'),
