@@ -5,12 +5,12 @@ ghost use Rattle.cartridge.specs.Header.{has_battery, ram_length_of};
 ghost use Rattle.machine.specs.Machine.{Frame, Seconds, Power, State, start, applied, picture_rows};
 ghost use Rattle.snapshot.specs.Encoding.{snapshot_length};
 ghost use Rattle.state_header.specs.States.{state_length, state_of};
-ghost use Rattle.log_format.specs.Content.{content, need};
+ghost use Rattle.log_format.specs.Content.{need};
 ghost use Rattle.sector_device.specs.DiskState.{Follows, HasHanded};
 ghost use Rattle.sector_device.specs.Runs.{HoldsSince};
-ghost use Rattle.session.specs.Accessors.{device_of, machine_of, rom_of, pending_of, acknowledged_of, is_broken, IsUnchanged, KeepsAllBut};
+ghost use Rattle.session.specs.Accessors.{device_of, machine_of, rom_of, pending_of, acknowledged_of, saved_of, is_broken, IsUnchanged, KeepsAllBut, KeepsSaved};
 ghost use Rattle.session.specs.Calls.{input_answer};
-ghost use Rattle.session.specs.Stands.{IsAtRest, StandsAtCount, StandsBetween, stands};
+ghost use Rattle.session.specs.Stands.{IsAtRest, StandsAt, StandsBetween};
 ghost use Rattle.session.specs.Inputs.{can_be_logged, entry_of, inputs_of};
 ghost use Rattle.battery_files.specs.Battery.{battery_length, battery_of};
 ghost use Rattle.battery_files.specs.Importing.{start_with};
@@ -80,6 +80,7 @@ pub extern "C" fn gbkeep_begin_session(
         (is_broken out.new.value.session ≡ false) }
     ensures machine { result ≡ done →
         (machine_of out.new.value.session ≡ start rom.now) × (rom_of out.new.value.session ≡ rom.now) }
+    ensures saved { result ≡ done → saved_of out.new.value.session ≡ record { count = 0; machine = start rom.now } }
     ensures rests { result ≡ done →
         IsAtRest rom.now (host_disk (device_of out.new.value.session)) 0 [] (start rom.now) }
     ensures sectors { result ≡ done → count_of (device_of out.new.value.session) ≡ sectors }
@@ -113,6 +114,8 @@ pub extern "C" fn gbkeep_import_session(
         (is_broken out.new.value.session ≡ false) }
     ensures machine { result ≡ done →
         (machine_of out.new.value.session ≡ start_with rom.now battery.now) × (rom_of out.new.value.session ≡ rom.now) }
+    ensures saved { result ≡ done →
+        saved_of out.new.value.session ≡ record { count = 0; machine = start_with rom.now battery.now } }
     ensures rests { result ≡ done →
         IsAtRest rom.now (host_disk (device_of out.new.value.session)) 0 [] (start_with rom.now battery.now) }
     ensures taken { result ≡ done → IsTaken rom.now battery.now }
@@ -144,6 +147,8 @@ pub extern "C" fn gbkeep_resume_session(
     ensures begun { result ≡ done →
         (pending_of out.new.value.session ≡ []) × (is_broken out.new.value.session ≡ false) ×
         (rom_of out.new.value.session ≡ rom.now) }
+    ensures saved { result ≡ done → saved_of out.new.value.session ≡
+        record { count = acknowledged_of out.new.value.session; machine = machine_of out.new.value.session } }
     ensures rests { result ≡ done →
         IsAtRest rom.now (host_disk (device_of out.new.value.session)) (acknowledged_of out.new.value.session) []
         (machine_of out.new.value.session) }
@@ -191,6 +196,7 @@ pub extern "C" fn gbkeep_play_session(
     ensures pending { result ≡ done →
         pending_of out.new.value.session ≡ pending_of session.value.session ++ entry_of (Frame buttons) ∷ [] }
     ensures refused { ¬ (result ≡ done) → IsUnchanged session.value.session out.new.value.session }
+    ensures kept { KeepsSaved session.value.session out.new.value.session }
 {
     let mut game = session.into_box();
     let code = match game.input(Input::Frame(buttons)) {
@@ -218,6 +224,7 @@ pub extern "C" fn gbkeep_wait_session(
     ensures pending { result ≡ done →
         pending_of out.new.value.session ≡ pending_of session.value.session ++ entry_of (Seconds seconds) ∷ [] }
     ensures refused { ¬ (result ≡ done) → IsUnchanged session.value.session out.new.value.session }
+    ensures kept { KeepsSaved session.value.session out.new.value.session }
 {
     let mut game = session.into_box();
     let code = match game.input(Input::Seconds(seconds)) {
@@ -245,6 +252,7 @@ pub extern "C" fn gbkeep_power_session(
     ensures pending { result ≡ done →
         pending_of out.new.value.session ≡ pending_of session.value.session ++ entry_of Power ∷ [] }
     ensures refused { ¬ (result ≡ done) → IsUnchanged session.value.session out.new.value.session }
+    ensures kept { KeepsSaved session.value.session out.new.value.session }
 {
     let mut game = session.into_box();
     let code = match game.power(alloc) {
@@ -272,6 +280,7 @@ pub extern "C" fn gbkeep_restore_session(
         pending_of out.new.value.session ≡
         pending_of session.value.session ++ entry_of (State (machine_of out.new.value.session)) ∷ [] }
     ensures refused { ¬ (result ≡ done) → IsUnchanged session.value.session out.new.value.session }
+    ensures kept { KeepsSaved session.value.session out.new.value.session }
 {
     let mut game = session.into_box();
     let code = match game.restore(bytes) {
@@ -302,16 +311,22 @@ pub extern "C" fn gbkeep_save_session(
     ensures images { is_broken session.value.session ≡ false →
         HoldsSince (host_disk (device_of session.value.session)) (host_disk (device_of out.new.value.session))
         (StandsBetween (can_be_logged (pending_of session.value.session)) (rom_of session.value.session)
-        (stands (rom_of session.value.session) (content (host_disk (device_of session.value.session)).sectors))
-        (inputs_of (pending_of session.value.session))
+        (Some (saved_of session.value.session)) (inputs_of (pending_of session.value.session))
         (record {
           count = acknowledged_of session.value.session + length (pending_of session.value.session);
           machine = machine_of session.value.session;
         })) }
-    ensures counts { is_broken session.value.session ≡ false →
-        StandsAtCount (rom_of session.value.session) (host_disk (device_of session.value.session))
-        (acknowledged_of session.value.session) }
+    ensures stands { is_broken session.value.session ≡ false →
+        StandsAt (rom_of session.value.session) (host_disk (device_of session.value.session))
+        (saved_of session.value.session) }
+    ensures stood { is_broken session.value.session ≡ false → can_be_logged (pending_of session.value.session) ≡ true →
+        IsAtRest (rom_of session.value.session) (host_disk (device_of session.value.session))
+        (acknowledged_of session.value.session) (pending_of session.value.session) (machine_of session.value.session) }
     ensures inputs { KeepsInputs session.value.session out.new.value.session }
+    ensures position { result ≡ done → saved_of out.new.value.session ≡
+        record { count = saved.new; machine = machine_of session.value.session } }
+    ensures kept { ¬ (result ≡ done) → saved_of out.new.value.session ≡ saved_of session.value.session }
+    ensures whole { result ≡ done → is_broken out.new.value.session ≡ false }
     ensures machine { (machine_of out.new.value.session ≡ machine_of session.value.session) ×
         (rom_of out.new.value.session ≡ rom_of session.value.session) }
     ensures code { IsSaveCode session.value.session out.new.value.session result }

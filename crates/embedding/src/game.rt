@@ -1,6 +1,6 @@
 //! A game whose disk is the host's: it hands out the calls that the host has to make.
 
-ghost use Rattle.std.specs.Prelude.{◌≡◌, ◌<◌, ◌+◌, ◌*◌, ◌++◌, ◌∷◌, [], true, false, ℕ, List, length, slice_range, Ok, IfOk, IfErr, OnOk, OnErr};
+ghost use Rattle.std.specs.Prelude.{◌≡◌, ◌<◌, ◌+◌, ◌*◌, ◌++◌, ◌∷◌, ◌⊎◌, [], true, false, ℕ, List, length, slice_range, Some, Ok, IfOk, IfErr, OnOk, OnErr};
 ghost use Rattle.cartridge.specs.Accepted.{IsAccepted, refusal_of};
 ghost use Rattle.cartridge.specs.Header.{has_battery, ram_length_of};
 ghost use Rattle.machine.specs.Machine.{Power, State, start, as_input, applied, picture_rows};
@@ -8,10 +8,10 @@ ghost use Rattle.snapshot.specs.Encoding.{snapshot_length};
 ghost use Rattle.state_header.specs.States.{state_length, state_of};
 ghost use Rattle.sector_device.specs.DiskState.{Follows, HasHanded, sector_at};
 ghost use Rattle.sector_device.specs.Runs.{HoldsSince};
-ghost use Rattle.log_format.specs.Content.{content, need};
-ghost use Rattle.session.specs.Accessors.{device_of, machine_of, rom_of, pending_of, acknowledged_of, is_broken, IsUnchanged, KeepsAllBut};
+ghost use Rattle.log_format.specs.Content.{need};
+ghost use Rattle.session.specs.Accessors.{device_of, machine_of, rom_of, pending_of, acknowledged_of, saved_of, is_broken, IsUnchanged, KeepsAllBut, KeepsSaved};
 ghost use Rattle.session.specs.Calls.{input_answer};
-ghost use Rattle.session.specs.Stands.{IsAtRest, StandsAtCount, StandsBetween, stands};
+ghost use Rattle.session.specs.Stands.{IsAtRest, StandsAt, StandsBetween};
 ghost use Rattle.session.specs.Inputs.{can_be_logged, entry_of, inputs_of};
 ghost use Rattle.battery_files.specs.Battery.{battery_length, battery_of};
 ghost use Rattle.battery_files.specs.Importing.{IsImportCause as IsFileCause, start_with};
@@ -110,6 +110,7 @@ impl Game {
             (acknowledged_of g.session ≡ 0) × (pending_of g.session ≡ []) × (is_broken g.session ≡ false)) }
         ensures machine { IfOk result (λ g. (machine_of g.session ≡ start rom.now) × (rom_of g.session ≡ rom.now)) }
         ensures rests { IfOk result (λ g. IsAtRest rom.now (host_disk (device_of g.session)) 0 [] (start rom.now)) }
+        ensures saved { IfOk result (λ g. saved_of g.session ≡ record { count = 0; machine = start rom.now }) }
         ensures cause { IfErr result (IsBeginCause rom.now sectors) }
         ensures sectors { IfOk result (λ g. count_of (device_of g.session) ≡ sectors) }
         ensures first { IfOk result (λ g. handed_of (device_of g.session) ≡ []) }
@@ -142,6 +143,8 @@ impl Game {
             (acknowledged_of g.session ≡ 0) × (pending_of g.session ≡ []) × (is_broken g.session ≡ false)) }
         ensures machine { IfOk result (λ g.
             (machine_of g.session ≡ start_with rom.now battery.now) × (rom_of g.session ≡ rom.now)) }
+        ensures saved { IfOk result (λ g.
+            saved_of g.session ≡ record { count = 0; machine = start_with rom.now battery.now }) }
         ensures rests { IfOk result (λ g.
             IsAtRest rom.now (host_disk (device_of g.session)) 0 [] (start_with rom.now battery.now)) }
         ensures taken { IfOk result (λ g. IsTaken rom.now battery.now) }
@@ -178,9 +181,7 @@ impl Game {
         ensures pending { OnOk result (pending_of self.new.session ≡
             pending_of self.old.session ++ entry_of (as_input input) ∷ []) }
         ensures refused { OnErr result (IsUnchanged self.old.session self.new.session) }
-        ensures device { device_of self.new.session ≡ device_of self.old.session }
-        ensures kept { (acknowledged_of self.new.session ≡ acknowledged_of self.old.session) ×
-            (rom_of self.new.session ≡ rom_of self.old.session) }
+        ensures kept { KeepsSaved self.old.session self.new.session }
     {
         self.session.input(input)
     }
@@ -195,9 +196,7 @@ impl Game {
         ensures pending { OnOk result (pending_of self.new.session ≡
             pending_of self.old.session ++ entry_of Power ∷ []) }
         ensures refused { OnErr result (IsUnchanged self.old.session self.new.session) }
-        ensures device { device_of self.new.session ≡ device_of self.old.session }
-        ensures kept { (acknowledged_of self.new.session ≡ acknowledged_of self.old.session) ×
-            (rom_of self.new.session ≡ rom_of self.old.session) }
+        ensures kept { KeepsSaved self.old.session self.new.session }
     {
         self.session.power(alloc, &self.cartridge)
     }
@@ -215,9 +214,7 @@ impl Game {
         ensures pending { OnOk result (pending_of self.new.session ≡
             pending_of self.old.session ++ entry_of (State (machine_of self.new.session)) ∷ []) }
         ensures refused { OnErr result (IsUnchanged self.old.session self.new.session) }
-        ensures device { device_of self.new.session ≡ device_of self.old.session }
-        ensures kept { (acknowledged_of self.new.session ≡ acknowledged_of self.old.session) ×
-            (rom_of self.new.session ≡ rom_of self.old.session) }
+        ensures kept { KeepsSaved self.old.session self.new.session }
     {
         // No snapshot has no bytes: to these the session answers why it takes no input, and else that they are damaged.
         match named(bytes, &self.cartridge) {
@@ -249,13 +246,18 @@ impl Game {
 
         // no input is added or lost, also where it is refused
         ensures inputs { KeepsInputs self.old.session self.new.session }
+        ensures position { IfOk result (λ all.
+            saved_of self.new.session ≡ record { count = all; machine = machine_of self.old.session }) }
+        ensures kept { OnErr result (saved_of self.new.session ≡ saved_of self.old.session) }
+        ensures whole { IfOk result (λ all. is_broken self.new.session ≡ false) }
+        ensures unchanged { IfErr result (λ why.
+            (why ≡ SessionError.Device) ⊎ IsUnchanged self.old.session self.new.session) }
 
         // at each moment the device stands for a prefix of the inputs that has all that were told before
         ensures images { is_broken self.old.session ≡ false →
             HoldsSince (host_disk (device_of self.old.session)) (host_disk (device_of self.new.session))
             (StandsBetween (can_be_logged (pending_of self.old.session)) (rom_of self.old.session)
-            (stands (rom_of self.old.session) (content (host_disk (device_of self.old.session)).sectors))
-            (inputs_of (pending_of self.old.session))
+            (Some (saved_of self.old.session)) (inputs_of (pending_of self.old.session))
             (record {
               count = acknowledged_of self.old.session + length (pending_of self.old.session);
               machine = machine_of self.old.session;
@@ -263,9 +265,8 @@ impl Game {
         ensures stood { is_broken self.old.session ≡ false → can_be_logged (pending_of self.old.session) ≡ true →
             IsAtRest (rom_of self.old.session) (host_disk (device_of self.old.session))
             (acknowledged_of self.old.session) (pending_of self.old.session) (machine_of self.old.session) }
-        ensures counts { is_broken self.old.session ≡ false →
-            StandsAtCount (rom_of self.old.session) (host_disk (device_of self.old.session))
-            (acknowledged_of self.old.session) }
+        ensures stands { is_broken self.old.session ≡ false →
+            StandsAt (rom_of self.old.session) (host_disk (device_of self.old.session)) (saved_of self.old.session) }
         ensures machine { (machine_of self.new.session ≡ machine_of self.old.session) ×
             (rom_of self.new.session ≡ rom_of self.old.session) }
     {
@@ -351,6 +352,8 @@ impl Game {
     pub fn resume(alloc: Global, rom: &[u8], image: &[u8]) -> Result<Game, GameError>
         ensures begun { IfOk result (λ g.
             (pending_of g.session ≡ []) × (is_broken g.session ≡ false) × (rom_of g.session ≡ rom.now)) }
+        ensures saved { IfOk result (λ g.
+            saved_of g.session ≡ record { count = acknowledged_of g.session; machine = machine_of g.session }) }
         ensures rests { IfOk result (λ g.
             IsAtRest rom.now (host_disk (device_of g.session)) (acknowledged_of g.session) [] (machine_of g.session)) }
         ensures sectors { IfOk result (λ g. 512 * count_of (device_of g.session) ≡ length image.now) }

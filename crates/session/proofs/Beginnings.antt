@@ -29,7 +29,7 @@ use Rattle.session.specs.Beginning.{session_fault, IsBeginRefusal}
 use Rattle.session.specs.declared.error.SessionError.{SessionError}
 use Rattle.session.specs.declared.error.SessionError.TheVariants.{Memory, Device, NoSession, TooSmall, OtherCartridge, Damaged, GenerationsUsedUp, Broken, SaveFirst, CountFull, Output}
 use Rattle.session.specs.Calls.{HasOldContentOrGame, faults_after}
-use Rattle.session.specs.Stands.{IsAtRest, StandsAsBefore, count_in, stands, further}
+use Rattle.session.specs.Stands.{IsAtRest, StandsAsBefore, stands, further}
 use Rattle.session.specs.Found.{IsNewGameCause}
 use Rattle.session.specs.Inputs.{input_of, inputs_of}
 use Rattle.session.specs.Resting.{IsOfItsRom, Rests}
@@ -172,11 +172,9 @@ begun_at_rest rom id written m base old now of few id_is written_is begun = reco
 }
 
 pub begun_rests : (id written : List ℕ) (m : MachineState) (base : ℕ) (old now : DiskState) (log : List StoredEntry) → IsMachineOf m.processor.memory.banks.rom m → base < 2 ^ 64 → id ≡ sha256 m.processor.memory.banks.rom → written ≡ encoded m
-    → HasBegun old now id base written → log ≡ [] → Rests now log base [] m
+    → HasBegun old now id base written → log ≡ [] → Rests m.processor.memory.banks.rom now log (record { count = base; machine = m })
 begun_rests id written m base old now log of few id_is written_is begun empty = record {
-  settled = begun.settled;
-  counts = ap count_in (begun_stands m.processor.memory.banks.rom id written m base now.sectors of few id_is written_is begun.holds.content_is);
-  at_rest = λ logged. begun_at_rest m.processor.memory.banks.rom id written m base old now of few id_is written_is begun;
+  stood = record { settled = begun.settled; is = begun_stands m.processor.memory.banks.rom id written m base now.sectors of few id_is written_is begun.holds.content_is };
   log_is = ap log_of begun.holds.content_is ∙ sym empty;
 }
 

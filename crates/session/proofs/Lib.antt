@@ -2,6 +2,7 @@ pub mod StandsLaws
 pub mod Replaying
 pub mod Recovering
 pub mod Writes
+pub mod AtRest
 pub mod Beginnings
 pub mod Answering
 pub mod Finding

@@ -4,6 +4,7 @@ use Rattle.std.proofs.Props.{props}
 use Rattle.std.specs.Prelude.{vec_capacity}
 use Rattle.sha2.specs.Sha256.{sha256}
 use Rattle.machine.specs.Machine.{MachineState}
+use Rattle.std.specs.declared.snapshot.Snapshot.{Snapshot}
 use Rattle.snapshot.specs.Encoding.{snapshot_length}
 use Rattle.sector_device.specs.declared.device.SectorDevice.{Ghosts}
 use Rattle.log_format.specs.Content.{need}
@@ -11,11 +12,11 @@ use Rattle.sector_log.specs.Accessors.{device_of as device_of_store, is_broken a
 use Rattle.input_entries.specs.declared.Entry.{Entry}
 use Rattle.sector_log.specs.declared.store.Store.{Store}
 use Rattle.session.specs.Calls.{most_unsaved}
-use Rattle.session.specs.Resting.{IsOfItsRom, RestsUnlessBroken}
+use Rattle.session.specs.Resting.{IsOfItsRom, LeadsTo, RestsUnlessBroken}
 use Rattle.session.specs.declared.session.Session.{Session}
 
 module _ {D : Type 0} {disk : Ghosts D} where
-  pub record Facts (store : Store D disk) (machine : MachineState) (pending : Vec Entry Global) (encoded : Vec ℕ Global) (acknowledged : ℕ) : Type 0 where
+  pub record Facts (store : Store D disk) (machine : MachineState) (pending : Vec Entry Global) (encoded : Vec ℕ Global) (acknowledged : ℕ) (saved : Snapshot MachineState) : Type 0 where
     pub few : length pending.items ≤ most_unsaved
     pub reserved : most_unsaved ≤ vec_capacity pending
     pub counted : acknowledged + length pending.items < 2 ^ 64
@@ -24,18 +25,20 @@ module _ {D : Type 0} {disk : Ghosts D} where
     pub large : need (length encoded.items) ≤ length (disk.disk (device_of_store store)).sectors
     pub id : id_of store ≡ sha256 machine.processor.memory.banks.rom
     pub own : IsOfItsRom machine
-    pub rests : RestsUnlessBroken (disk.disk (device_of_store store)) (entries_of store) acknowledged pending.items machine (is_broken_store store)
+    pub leads : LeadsTo saved.value pending.items machine
+    pub rests : RestsUnlessBroken machine.processor.memory.banks.rom (disk.disk (device_of_store store)) (entries_of store) (record { count = acknowledged; machine = saved.value }) (is_broken_store store)
 
-  facts_prop : (store : Store D disk) (machine : MachineState) (pending : Vec Entry Global) (encoded : Vec ℕ Global) (acknowledged : ℕ) → IsProp (Facts store machine pending encoded acknowledged)
-  facts_prop store machine pending encoded acknowledged = hlevel props
+  facts_prop : (store : Store D disk) (machine : MachineState) (pending : Vec Entry Global) (encoded : Vec ℕ Global) (acknowledged : ℕ) (saved : Snapshot MachineState) → IsProp (Facts store machine pending encoded acknowledged saved)
+  facts_prop store machine pending encoded acknowledged saved = hlevel props
 
-  abbrev with_facts : (store : Store D disk) (machine : MachineState) (pending : Vec Entry Global) (encoded : Vec ℕ Global) (acknowledged : ℕ) → Facts store machine pending encoded acknowledged → Session D disk
-  with_facts store machine pending encoded acknowledged f = record {
+  abbrev with_facts : (store : Store D disk) (machine : MachineState) (pending : Vec Entry Global) (encoded : Vec ℕ Global) (acknowledged : ℕ) (saved : Snapshot MachineState) → Facts store machine pending encoded acknowledged saved → Session D disk
+  with_facts store machine pending encoded acknowledged saved f = record {
     store = store;
     machine = machine;
     pending = pending;
     encoded = encoded;
     acknowledged = acknowledged;
+    saved = saved;
     few = f.few;
     reserved = f.reserved;
     counted = f.counted;
@@ -44,10 +47,11 @@ module _ {D : Type 0} {disk : Ghosts D} where
     large = f.large;
     id = f.id;
     own = f.own;
+    leads = f.leads;
     rests = f.rests;
   }
 
-  abbrev facts_of : (s : Session D disk) → Facts s.store s.machine s.pending s.encoded s.acknowledged
+  abbrev facts_of : (s : Session D disk) → Facts s.store s.machine s.pending s.encoded s.acknowledged s.saved
   facts_of s = record {
     few = s.few;
     reserved = s.reserved;
@@ -57,10 +61,11 @@ module _ {D : Type 0} {disk : Ghosts D} where
     large = s.large;
     id = s.id;
     own = s.own;
+    leads = s.leads;
     rests = s.rests;
   }
 
-  pub same_session : (s : Session D disk) (m : MachineState) → m ≡ s.machine → (f : Facts s.store m s.pending s.encoded s.acknowledged) → with_facts s.store m s.pending s.encoded s.acknowledged f ≡ s
+  pub same_session : (s : Session D disk) (m : MachineState) → m ≡ s.machine → (f : Facts s.store m s.pending s.encoded s.acknowledged s.saved) → with_facts s.store m s.pending s.encoded s.acknowledged s.saved f ≡ s
   same_session s m same =
-      subst (λ (n : MachineState). (f : Facts s.store n s.pending s.encoded s.acknowledged) → with_facts s.store n s.pending s.encoded s.acknowledged f ≡ s) (sym same)
-      (λ f. ap (with_facts s.store s.machine s.pending s.encoded s.acknowledged) (facts_prop s.store s.machine s.pending s.encoded s.acknowledged f (facts_of s)))
+      subst (λ (n : MachineState). (f : Facts s.store n s.pending s.encoded s.acknowledged s.saved) → with_facts s.store n s.pending s.encoded s.acknowledged s.saved f ≡ s) (sym same)
+      (λ f. ap (with_facts s.store s.machine s.pending s.encoded s.acknowledged s.saved) (facts_prop s.store s.machine s.pending s.encoded s.acknowledged s.saved f (facts_of s)))

@@ -22,11 +22,12 @@ use Rattle.input_entries.specs.Inputs.{is_input, all_input}
 use Rattle.input_entries.specs.declared.Entry.{Entry}
 use Rattle.input_entries.specs.declared.StoredEntry.{StoredEntry}
 use Rattle.session.specs.Calls.{IsSaved, fits_log, most_unsaved}
-use Rattle.session.specs.Stands.{count_in, IsAtRest, Position, stands, further, StandsWithin, StandsBetween}
+use Rattle.session.specs.Stands.{IsAtRest, Position, StandsAt, stands, further, StandsWithin, StandsBetween}
 use Rattle.session.specs.Inputs.{can_be_logged, input_of, inputs_of, no_input}
-use Rattle.session.specs.Resting.{Rests}
+use Rattle.session.specs.Resting.{LeadsTo, Rests}
 use Rattle.session.specs.Writing.{HoldsWritten, IsWritten}
 use Rattle.session.proofs.StandsLaws.{after_append, after_none, after_one, logged_append, more_stands}
+use Rattle.session.proofs.AtRest.{at_rest_with}
 use Rattle.session.proofs.Beginnings.{begun_stands, begun_rests}
 use Rattle.session.proofs.Writes.{since_weaker}
 
@@ -79,152 +80,131 @@ pub no_input_is_none : is_input no_input ≡ false
 unfolding is_input
 no_input_is_none = refl
 
-pub rests_more :
-    (now : DiskState) (log : List StoredEntry) (acknowledged : ℕ) (pending after_it : List Entry) (entry : Entry) (m then : MachineState) (input : Input) → PassesTime input
-    → Rests now log acknowledged pending m → after_it ≡ pending ++ entry ∷ [] → is_input entry ≡ true → input_of entry ≡ input → then ≡ applied input m → Rests now log acknowledged after_it then
-rests_more now log acknowledged pending after_it entry m then input passes rests more one input_is is =
-    let rom = m.processor.memory.banks.rom in
-    let same = same_after m then input passes is in
+-- they lead on by one more that a log can hold
+pub leads_more :
+    (saved : MachineState) (pending after_it : List Entry) (entry : Entry) (m then : MachineState) (input : Input)
+    → LeadsTo saved pending m → after_it ≡ pending ++ entry ∷ [] → is_input entry ≡ true → input_of entry ≡ input → then ≡ applied input m → LeadsTo saved after_it then
+leads_more saved pending after_it entry m then input leads more one input_is is = λ logged.
+    let was : can_be_logged pending ≡ true = sym (logged_more pending entry one) ∙ sym (ap can_be_logged more) ∙ logged in
     let inputs_are : inputs_of after_it ≡ inputs_of pending ++ input ∷ [] = ap inputs_of more ∙ logged_append pending (entry ∷ []) ∙ ap (λ (i : Input). inputs_of pending ++ i ∷ []) input_is in
-    record {
-      settled = rests.settled;
-      counts = ap (λ (r : List ℕ). count_in (stands r (content now.sectors))) same.rom ∙ rests.counts;
-      at_rest = λ logged.
-          let was : can_be_logged pending ≡ true = sym (logged_more pending entry one) ∙ sym (ap can_be_logged more) ∙ logged in
-          let from = leading (stands rom (content now.sectors)) (inputs_of pending) (acknowledged + length pending) m (rests.at_rest was).leads in
-          let machine_is : after from.position.machine (inputs_of after_it) ≡ then =
-          ap (after from.position.machine) inputs_are ∙ sym (after_append from.position.machine (inputs_of pending) (input ∷ []))
-          ∙ ap (λ (n : MachineState). after n (input ∷ [])) from.machine_is ∙ after_one m input ∙ sym is in
-          let count_is : from.position.count + length (inputs_of after_it) ≡ acknowledged + length after_it =
-          omega (arith, from.count_is, ap length inputs_are, ap length more, length-append (inputs_of pending) (input ∷ []), length-append pending (entry ∷ [])) in
-          record {
-            settled = rests.settled;
-            leads = ap (λ (r : List ℕ). further (inputs_of after_it) (stands r (content now.sectors))) same.rom
-                ∙ ap (further (inputs_of after_it)) from.stood
-                ∙ (λ i. Some (record { count = count_is i; machine = machine_is i }));
-          };
-      log_is = rests.log_is;
-    }
+    ap (after saved) inputs_are ∙ sym (after_append saved (inputs_of pending) (input ∷ []))
+    ∙ ap (λ (n : MachineState). after n (input ∷ [])) (leads was) ∙ after_one m input ∙ sym is
 
--- behind a power switch, or with another machine
-pub rests_otherwise :
-    (now : DiskState) (log : List StoredEntry) (acknowledged : ℕ) (pending after_it : List Entry) (entry : Entry) (m then : MachineState)
-    → Rests now log acknowledged pending m → after_it ≡ pending ++ entry ∷ [] → entry ≡ no_input → then.processor.memory.banks.rom ≡ m.processor.memory.banks.rom → Rests now log acknowledged after_it then
-rests_otherwise now log acknowledged pending after_it entry m then rests more none same =
-    let other : can_be_logged after_it ≡ false = ap can_be_logged more ∙ not_logged pending entry (ap is_input none ∙ no_input_is_none) in
-    record {
-      settled = rests.settled;
-      counts = ap (λ (r : List ℕ). count_in (stands r (content now.sectors))) same ∙ rests.counts;
-      at_rest = λ logged. let clash : true ≡ false = sym logged ∙ other in absurd (cc);
-      log_is = rests.log_is;
-    }
+-- behind a power switch, or with another machine, nothing is said of where they lead
+pub leads_otherwise : (saved : MachineState) (pending after_it : List Entry) (entry : Entry) (then : MachineState) → after_it ≡ pending ++ entry ∷ [] → entry ≡ no_input → LeadsTo saved after_it then
+leads_otherwise saved pending after_it entry then more none = λ logged.
+    let clash : true ≡ false = sym logged ∙ ap can_be_logged more ∙ not_logged pending entry (ap is_input none ∙ no_input_is_none) in
+    absurd (cc)
+
+-- what a session rests on is of its ROM alone
+pub rests_by : {rom other : List ℕ} {now : DiskState} {log : List StoredEntry} {saved : Position} → other ≡ rom → Rests rom now log saved → Rests other now log saved
+rests_by {now = now} {log = log} {saved = saved} same rests = subst (λ (r : List ℕ). Rests r now log saved) (sym same) rests
+
+-- with nothing unsaved, the saved inputs are all inputs
+pub nothing_stands : (from : Position) (pending : List Entry) (m : MachineState) → LeadsTo from.machine pending m → (none : ℕ) → pending ≡ [] → none ≡ length pending → from ≡ record { count = from.count + none; machine = m }
+nothing_stands from pending m leads none empty size =
+    let count_is : from.count ≡ from.count + none = omega (arith, size, ap length empty) in
+    let machine_is : from.machine ≡ m = sym (after_none from.machine) ∙ ap (λ (l : List Entry). after from.machine (inputs_of l)) (sym empty) ∙ leads (ap can_be_logged empty) in
+    λ i. record { count = count_is i; machine = machine_is i }
 
 -- ---- a save
 
 module _
-    (old : DiskState) (log : List StoredEntry) (acknowledged : ℕ) (pending : List Entry) (m : MachineState) (rests : Rests old log acknowledged pending m)
-    (few : acknowledged + length pending < 2 ^ 64) where
+    (old : DiskState) (log : List StoredEntry) (from : Position) (pending : List Entry) (m : MachineState) (rests : Rests m.processor.memory.banks.rom old log from)
+    (leads : LeadsTo from.machine pending m) (few : from.count + length pending < 2 ^ 64) where
   abbrev rom : List ℕ
   rom = m.processor.memory.banks.rom
 
+  abbrev total : ℕ
+  total = from.count + length pending
+
   abbrev behind : Position
-  behind = record { count = acknowledged + length pending; machine = m }
+  behind = record { count = total; machine = m }
 
   -- where the log can hold all that is pending
   module _ (logged : can_be_logged pending ≡ true) where
-    from : Leading (stands rom (content old.sectors)) (inputs_of pending) (acknowledged + length pending) m
-    from = leading (stands rom (content old.sectors)) (inputs_of pending) (acknowledged + length pending) m (rests.at_rest logged).leads
+    size : length (inputs_of pending) ≡ length pending
+    size = length-map pending input_of
+
+    led : further (inputs_of pending) (Some from) ≡ Some behind
+    led = let count_is : from.count + length (inputs_of pending) ≡ total = ap (λ (n : ℕ). from.count + n) size in λ i. Some (record { count = count_is i; machine = leads logged i })
 
     -- none further
-    here : (image : List (List ℕ)) → content image ≡ content old.sectors → StandsWithin rom (stands rom (content old.sectors)) (inputs_of pending) image
+    here : (image : List (List ℕ)) → content image ≡ content old.sectors → StandsWithin rom (Some from) (inputs_of pending) image
     here image same = record {
       count = 0;
       within = omega arith;
-      is = ap (stands rom) same ∙ from.stood
-          ∙ (let count_is : from.position.count ≡ from.position.count + 0 = omega arith in let machine_is = sym (after_none from.position.machine) in λ i. Some (record { count = count_is i; machine = machine_is i }))
-          ∙ ap (further []) (sym from.stood);
+      is = ap (stands rom) same ∙ rests.stood.is
+          ∙ (let count_is : from.count ≡ from.count + 0 = omega arith in let machine_is = sym (after_none from.machine) in λ i. Some (record { count = count_is i; machine = machine_is i }));
     }
 
     -- a prefix further
-    front : (image : List (List ℕ)) → HoldsPrefix old.sectors pending image → StandsWithin rom (stands rom (content old.sectors)) (inputs_of pending) image
+    front : (image : List (List ℕ)) → HoldsPrefix old.sectors pending image → StandsWithin rom (Some from) (inputs_of pending) image
     front image holds =
-        let size : length (take holds.count pending) ≡ holds.count = length-take-le holds.count pending holds.within in
-        let all : length (inputs_of pending) ≡ length pending = length-map pending input_of in
-        let less : from.position.count + length (take holds.count pending) < 2 ^ 64 = omega (arith, size, all, from.count_is, few, holds.within) in
+        let taken : length (take holds.count pending) ≡ holds.count = length-take-le holds.count pending holds.within in
+        let less : from.count + length (take holds.count pending) < 2 ^ 64 = omega (arith, taken, few, holds.within) in
         record {
           count = holds.count;
-          within = omega (arith, holds.within, all);
-          is = more_stands rom (content old.sectors) (content image) (take holds.count pending) from.position holds.adds from.stood less
-              ∙ ap (λ (l : List Input). further l (Some from.position)) (sym (take-map input_of holds.count pending))
-              ∙ ap (further (take holds.count (inputs_of pending))) (sym from.stood);
+          within = omega (arith, holds.within, size);
+          is = more_stands rom (content old.sectors) (content image) (take holds.count pending) from holds.adds rests.stood.is less
+              ∙ ap (λ (l : List Input). further l (Some from)) (sym (take-map input_of holds.count pending));
         }
 
     -- all further
-    whole : (id : List ℕ) (image : List (List ℕ)) → IsMachineOf rom m → id ≡ sha256 rom → content image ≡ Some (new_generation id (acknowledged + length pending) (encoded m)) → StandsWithin rom (stands rom (content old.sectors)) (inputs_of pending) image
+    whole : (id : List ℕ) (image : List (List ℕ)) → IsMachineOf rom m → id ≡ sha256 rom → content image ≡ Some (new_generation id total (encoded m)) → StandsWithin rom (Some from) (inputs_of pending) image
     whole id image of id_is is = record {
       count = length (inputs_of pending);
       within = omega arith;
-      is = begun_stands rom id (encoded m) m (acknowledged + length pending) image of few id_is refl is
-          ∙ sym (rests.at_rest logged).leads
-          ∙ ap (λ (l : List Input). further l (stands rom (content old.sectors))) (sym (take_all (length (inputs_of pending)) (inputs_of pending) (omega arith)));
+      is = begun_stands rom id (encoded m) m total image of few id_is refl is
+          ∙ sym led
+          ∙ ap (λ (l : List Input). further l (Some from)) (sym (take_all (length (inputs_of pending)) (inputs_of pending) (omega arith)));
     }
 
     within : (fits : Bool) (now : DiskState) (id : List ℕ) → (fits ≡ false → IsMachineOf rom m) → id ≡ sha256 rom
-        → HoldsSince old now (HoldsWritten fits old.sectors pending id (acknowledged + length pending) (encoded m)) → HoldsSince old now (StandsWithin rom (stands rom (content old.sectors)) (inputs_of pending))
+        → HoldsSince old now (HoldsWritten fits old.sectors pending id total (encoded m)) → HoldsSince old now (StandsWithin rom (Some from) (inputs_of pending))
     within true now id of id_is held = since_weaker held front
     within false now id of id_is held = since_weaker held (λ image. ⊎_elim (here image) (whole id image (of refl) id_is))
 
     -- after an append
-    appended_rests : (now : DiskState) (then : List StoredEntry) → IsAppended old now pending → log_of (content now.sectors) ≡ then → Rests now then (acknowledged + length pending) [] m
-    appended_rests now then appended reads =
-        let all : length (inputs_of pending) ≡ length pending = length-map pending input_of in
-        let less : from.position.count + length pending < 2 ^ 64 = omega (arith, all, from.count_is, few) in
-        let stood : stands rom (content now.sectors) ≡ Some behind =
-        more_stands rom (content old.sectors) (content now.sectors) pending from.position appended.adds from.stood less ∙ ap (further (inputs_of pending)) (sym from.stood) ∙ (rests.at_rest logged).leads in
-        record {
-          settled = appended.settled;
-          counts = ap count_in stood;
-          at_rest = λ none. record {
-            settled = appended.settled;
-            leads = ap (further []) stood
-                ∙ (let same = after_none m in λ i. Some (record { count = acknowledged + length pending + 0; machine = same i }));
-          };
-          log_is = reads;
-        }
+    appended_rests : (now : DiskState) (then : List StoredEntry) → IsAppended old now pending → log_of (content now.sectors) ≡ then → Rests rom now then behind
+    appended_rests now then appended reads = record {
+      stood = record { settled = appended.settled; is = more_stands rom (content old.sectors) (content now.sectors) pending from appended.adds rests.stood.is few ∙ led };
+      log_is = reads;
+    }
 
   -- each image of a save, by whether the log can hold what is pending
   abbrev Between : Bool → DiskState → Type 0
-  Between logged now = HoldsSince old now (StandsBetween logged rom (stands rom (content old.sectors)) (inputs_of pending) behind)
+  Between logged now = HoldsSince old now (StandsBetween logged rom (Some from) (inputs_of pending) behind)
 
   otherwise : (now : DiskState) (id : List ℕ) → IsMachineOf rom m → id ≡ sha256 rom
-      → HoldsSince old now (HoldsWritten false old.sectors pending id (acknowledged + length pending) (encoded m)) → Between false now
+      → HoldsSince old now (HoldsWritten false old.sectors pending id total (encoded m)) → Between false now
   otherwise now id of id_is held =
-      since_weaker held (λ image. ⊎_elim (λ same. inl (ap (stands rom) same)) (λ new. inr (begun_stands rom id (encoded m) m (acknowledged + length pending) image of few id_is refl new)))
+      since_weaker held (λ image. ⊎_elim (λ same. inl (ap (stands rom) same ∙ rests.stood.is)) (λ new. inr (begun_stands rom id (encoded m) m total image of few id_is refl new)))
 
   pub written_within : (fits : Bool) (now : DiskState) (id : List ℕ) → (can_be_logged pending ≡ false → fits ≡ false) → (fits ≡ false → IsMachineOf rom m) → id ≡ sha256 rom
-      → HoldsSince old now (HoldsWritten fits old.sectors pending id (acknowledged + length pending) (encoded m)) → Between (can_be_logged pending) now
+      → HoldsSince old now (HoldsWritten fits old.sectors pending id total (encoded m)) → Between (can_be_logged pending) now
   written_within fits now id unfit of id_is held =
       elim (cases_Bool (can_be_logged pending)) [
         | inl can ↦ subst (λ (b : Bool). Between b now) (sym can) (within can fits now id of id_is held)
         | inr other ↦
             subst (λ (b : Bool). Between b now) (sym other)
-            (otherwise now id (of (unfit other)) id_is (subst (λ (b : Bool). HoldsSince old now (HoldsWritten b old.sectors pending id (acknowledged + length pending) (encoded m))) (unfit other) held))
+            (otherwise now id (of (unfit other)) id_is (subst (λ (b : Bool). HoldsSince old now (HoldsWritten b old.sectors pending id total (encoded m))) (unfit other) held))
       ]
 
   pub written_rests : (fits : Bool) (now : DiskState) (id : List ℕ) (then : List StoredEntry) → (can_be_logged pending ≡ false → fits ≡ false) → (fits ≡ false → IsMachineOf rom m) → id ≡ sha256 rom
-      → IsWritten fits old now pending id (acknowledged + length pending) (encoded m) log then → Rests now then (acknowledged + length pending) [] m
+      → IsWritten fits old now pending id total (encoded m) log then → Rests rom now then behind
   written_rests true now id then unfit of id_is written =
       elim (cases_Bool (can_be_logged pending)) [
         | inl can ↦ appended_rests can now then written.0 written.2
         | inr other ↦ let is : true ≡ false = unfit other in absurd (cc)
       ]
-  written_rests false now id then unfit of id_is written = begun_rests id (encoded m) m (acknowledged + length pending) old now then (of refl) few id_is refl written.0 written.1
+  written_rests false now id then unfit of id_is written = begun_rests id (encoded m) m total old now then (of refl) few id_is refl written.0 written.1
 
   pub written_saved : (fits : Bool) (now : DiskState) (id : List ℕ) (then : List StoredEntry) → id ≡ sha256 rom
-      → IsWritten fits old now pending id (acknowledged + length pending) (encoded m) log then → IsSaved fits rom (acknowledged + length pending) m pending old.sectors now.sectors
+      → IsWritten fits old now pending id total (encoded m) log then → IsSaved fits rom total m pending old.sectors now.sectors
   written_saved true now id then id_is written = (written.0.adds, written.2 ∙ written.1 ∙ ap (λ (l : List StoredEntry). grown l pending) (sym rests.log_is), written.0.generation_is)
   written_saved false now id then id_is written =
-      (written.0.holds.content_is ∙ ap (λ (i : List ℕ). Some (new_generation i (acknowledged + length pending) (encoded m))) id_is, written.0.holds.generation_is)
+      (written.0.holds.content_is ∙ ap (λ (i : List ℕ). Some (new_generation i total (encoded m))) id_is, written.0.holds.generation_is)
 
   -- a save of nothing
   pub nothing_within : pending ≡ [] → ((image : List (List ℕ)) → old.since old.moment image → old.image image) → Between (can_be_logged pending) old
@@ -232,42 +212,36 @@ module _
       let can : can_be_logged pending ≡ true = ap can_be_logged empty in
       subst (λ (b : Bool). Between b old) (sym can)
       (holds_since only (record { later = omega arith; each = λ t c le since. inl since }) (λ t c le since. since)
-      (λ image now. here can image (ap content (rests.settled image now))))
+      (λ image now. here can image (ap content (rests.stood.settled image now))))
 
-  pub nothing_rests : (none : ℕ) → pending ≡ [] → none ≡ length pending → IsAtRest rom old (acknowledged + none) [] m
-  nothing_rests none empty size = record {
-    settled = rests.settled;
-    leads = ap (λ (l : List Entry). further (inputs_of l) (stands rom (content old.sectors))) (sym empty) ∙ (rests.at_rest (ap can_be_logged empty)).leads
-        ∙ (let count_is : acknowledged + length pending ≡ acknowledged + none + 0 = omega (arith, size) in λ i. Some (record { count = count_is i; machine = m }));
-  }
+  pub nothing_rests : (none : ℕ) → pending ≡ [] → none ≡ length pending → IsAtRest rom old (from.count + none) [] m
+  nothing_rests none empty size =
+      at_rest_with rom old (record { count = from.count + none; machine = m }) [] m (subst (StandsAt rom old) (nothing_stands from pending m leads none empty size) rests.stood) (after_none m)
 
   -- the same where entries and count have other names
-  module _ (test : List Entry → Bool) (unfit : can_be_logged pending ≡ false → test pending ≡ false) (now : DiskState) (id : List ℕ) (entries : List Entry) (all : ℕ) (entries_are : entries ≡ pending)
-      (all_is : all ≡ acknowledged + length pending) (id_is : id ≡ sha256 rom) where
-    renamed : (then : List StoredEntry) → IsWritten (test entries) old now entries id all (encoded m) log then → IsWritten (test pending) old now pending id (acknowledged + length pending) (encoded m) log then
+  module _ (test : List Entry → Bool) (unfit : can_be_logged pending ≡ false → test pending ≡ false) (now : DiskState) (id : List ℕ) (entries : List Entry) (count : ℕ) (entries_are : entries ≡ pending)
+      (count_is : count ≡ total) (id_is : id ≡ sha256 rom) where
+    renamed : (then : List StoredEntry) → IsWritten (test entries) old now entries id count (encoded m) log then → IsWritten (test pending) old now pending id total (encoded m) log then
     renamed then written =
-        subst (λ (l : List Entry). IsWritten (test l) old now l id (acknowledged + length pending) (encoded m) log then) entries_are
-        (subst (λ (n : ℕ). IsWritten (test entries) old now entries id n (encoded m) log then) all_is written)
+        subst (λ (l : List Entry). IsWritten (test l) old now l id total (encoded m) log then) entries_are
+        (subst (λ (n : ℕ). IsWritten (test entries) old now entries id n (encoded m) log then) count_is written)
 
     legal_then : (test entries ≡ false → IsMachineOf rom m) → test pending ≡ false → IsMachineOf rom m
     legal_then of e = of (ap test entries_are ∙ e)
 
-    pub rests_after : (then : List StoredEntry) (cleared : List Entry) → cleared ≡ [] → (test entries ≡ false → IsMachineOf rom m)
-        → IsWritten (test entries) old now entries id all (encoded m) log then → Rests now then all cleared m
-    rests_after then cleared empty of written =
-        subst (λ (n : ℕ). Rests now then n cleared m) (sym all_is)
-        (subst (λ (l : List Entry). Rests now then (acknowledged + length pending) l m) (sym empty)
-        (written_rests (test pending) now id then unfit (legal_then of) id_is (renamed then written)))
+    pub rests_after : (then : List StoredEntry) → (test entries ≡ false → IsMachineOf rom m) → IsWritten (test entries) old now entries id count (encoded m) log then → Rests rom now then (record { count = count; machine = m })
+    rests_after then of written =
+        subst (λ (n : ℕ). Rests rom now then (record { count = n; machine = m })) (sym count_is) (written_rests (test pending) now id then unfit (legal_then of) id_is (renamed then written))
 
-    pub saved_after : (then : List StoredEntry) → IsWritten (test entries) old now entries id all (encoded m) log then → IsSaved (test pending) rom all m pending old.sectors now.sectors
+    pub saved_after : (then : List StoredEntry) → IsWritten (test entries) old now entries id count (encoded m) log then → IsSaved (test pending) rom count m pending old.sectors now.sectors
     saved_after then written =
-        subst (λ (n : ℕ). IsSaved (test pending) rom n m pending old.sectors now.sectors) (sym all_is) (written_saved (test pending) now id then id_is (renamed then written))
+        subst (λ (n : ℕ). IsSaved (test pending) rom n m pending old.sectors now.sectors) (sym count_is) (written_saved (test pending) now id then id_is (renamed then written))
 
-    pub within_after : (test entries ≡ false → IsMachineOf rom m) → HoldsSince old now (HoldsWritten (test entries) old.sectors entries id all (encoded m)) → Between (can_be_logged pending) now
+    pub within_after : (test entries ≡ false → IsMachineOf rom m) → HoldsSince old now (HoldsWritten (test entries) old.sectors entries id count (encoded m)) → Between (can_be_logged pending) now
     within_after of held =
         written_within (test pending) now id unfit (legal_then of) id_is
-        (subst (λ (l : List Entry). HoldsSince old now (HoldsWritten (test l) old.sectors l id (acknowledged + length pending) (encoded m))) entries_are
-        (subst (λ (n : ℕ). HoldsSince old now (HoldsWritten (test entries) old.sectors entries id n (encoded m))) all_is held))
+        (subst (λ (l : List Entry). HoldsSince old now (HoldsWritten (test l) old.sectors l id total (encoded m))) entries_are
+        (subst (λ (n : ℕ). HoldsSince old now (HoldsWritten (test entries) old.sectors entries id n (encoded m))) count_is held))
 
 pub listed_inputs : (entries : List Entry) → all_input entries → can_be_logged entries ≡ true
 listed_inputs [] all = refl

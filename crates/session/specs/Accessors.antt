@@ -7,6 +7,7 @@ use Rattle.input_entries.specs.declared.StoredEntry.{StoredEntry}
 use Rattle.machine.specs.Machine.{MachineState}
 use Rattle.session.specs.declared.error.SessionError.{SessionError}
 use Rattle.sector_device.specs.declared.refused.Refused.{Refused}
+use Rattle.session.specs.Stands.{Position}
 use Rattle.session.specs.declared.session.Session.{Session}
 
 module _ {D : Type 0} {disk : Ghosts D} where
@@ -29,6 +30,10 @@ module _ {D : Type 0} {disk : Ghosts D} where
   abbrev pub acknowledged_of : Session D disk → ℕ
   acknowledged_of s = s.acknowledged
 
+  -- the saved inputs: how many there are, and the machine after them
+  abbrev pub saved_of : Session D disk → Position
+  saved_of s = record { count = s.acknowledged; machine = s.saved.value }
+
   -- a call of its device failed: only resuming helps
   abbrev pub is_broken : Session D disk → Bool
   is_broken s = is_broken_store s.store
@@ -46,6 +51,16 @@ module _ {D : Type 0} {disk : Ghosts D} where
     pub machine : machine_of new ≡ machine_of old
     pub pending : pending_of new ≡ pending_of old
     pub acknowledged : acknowledged_of new ≡ acknowledged_of old
+    pub saved : saved_of new ≡ saved_of old
+    pub broken : is_broken new ≡ is_broken old
+    pub log : log_in new ≡ log_in old
+    pub generation : generation_in_use new ≡ generation_in_use old
+
+  -- nothing of it changed but the machine and the unsaved inputs
+  pub record KeepsSaved (old new : Session D disk) : Type 0 where
+    pub device : device_of new ≡ device_of old
+    pub saved : saved_of new ≡ saved_of old
+    pub rom : rom_of new ≡ rom_of old
     pub broken : is_broken new ≡ is_broken old
     pub log : log_in new ≡ log_in old
     pub generation : generation_in_use new ≡ generation_in_use old
@@ -55,6 +70,7 @@ module _ {D : Type 0} {disk : Ghosts D} where
     pub machine : machine_of new ≡ machine_of old
     pub pending : pending_of new ≡ pending_of old
     pub acknowledged : acknowledged_of new ≡ acknowledged_of old
+    pub saved : saved_of new ≡ saved_of old
     pub broken : is_broken new ≡ is_broken old
     pub log : log_in new ≡ log_in old
     pub generation : generation_in_use new ≡ generation_in_use old

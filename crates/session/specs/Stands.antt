@@ -74,15 +74,10 @@ pub record IsAtRest (rom : List ℕ) (now : DiskState) (acknowledged : ℕ) (pen
   pub settled : Settled now
   pub leads : further (inputs_of pending) (stands rom (content now.sectors)) ≡ Some (record { count = acknowledged + length pending; machine = machine })
 
--- the count of a position
-abbrev pub count_in : Option Position → Option ℕ
-count_in None = None
-count_in (Some at) = Some at.count
-
--- One image is left, and it stands for this count of inputs, whatever they are.
-pub record StandsAtCount (rom : List ℕ) (now : DiskState) (count : ℕ) : Type 0 where
+-- One image is left, and it stands for this position.
+pub record StandsAt (rom : List ℕ) (now : DiskState) (at : Position) : Type 0 where
   pub settled : Settled now
-  pub counts : count_in (stands rom (content now.sectors)) ≡ Some count
+  pub is : stands rom (content now.sectors) ≡ Some at
 
 -- ---- a game taken up
 

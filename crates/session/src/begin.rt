@@ -15,7 +15,7 @@ ghost use Rattle.session.specs.Stands.{IsAtRest};
 ghost use Rattle.session.specs.Beginning.{session_fault, IsBeginRefusal};
 ghost use Rattle.session.specs.NewGame.{AnswersNewGame};
 ghost use Rattle.session.specs.Resting.{IsOfItsRom};
-ghost use Rattle.session.specs.Accessors.{device_of, machine_of, rom_of, pending_of, acknowledged_of, is_broken, left_by};
+ghost use Rattle.session.specs.Accessors.{device_of, machine_of, rom_of, pending_of, acknowledged_of, saved_of, is_broken, left_by};
 ghost use Rattle.session.specs.declared.error.SessionError.TheVariants.{Device};
 
 use crate::error::SessionError;
@@ -115,6 +115,7 @@ pub fn new_game<D: SectorDevice>(
     // what is begun
     ensures begun { IfOk result (λ s. (acknowledged_of s ≡ 0) × (pending_of s ≡ []) × (is_broken s ≡ false)) }
     ensures machine { IfOk result (λ s. (machine_of s ≡ start cartridge.now) × (rom_of s ≡ cartridge.now)) }
+    ensures saved { IfOk result (λ s. saved_of s ≡ record { count = 0; machine = start cartridge.now }) }
 
     // what the device stands for, at Ok and at each moment
     ensures rests { IfOk result (λ s.
@@ -154,6 +155,7 @@ pub fn new_game_from<D: SectorDevice>(
     // what is begun
     ensures begun { IfOk result (λ s. (acknowledged_of s ≡ 0) × (pending_of s ≡ []) × (is_broken s ≡ false)) }
     ensures machine { IfOk result (λ s. (machine_of s ≡ machine) × (rom_of s ≡ cartridge.now)) }
+    ensures saved { IfOk result (λ s. saved_of s ≡ record { count = 0; machine = machine }) }
 
     // what the device stands for, at Ok and at each moment
     ensures rests { IfOk result (λ s.
@@ -204,6 +206,7 @@ pub(crate) fn begin_with<D: SectorDevice>(
 
     ensures begun { IfOk result (λ s.
         (acknowledged_of s ≡ count) × (pending_of s ≡ []) × (is_broken s ≡ false) × (machine_of s ≡ machine)) }
+    ensures saved { IfOk result (λ s. saved_of s ≡ record { count = count; machine = machine }) }
     ensures of { IsMachineOf cartridge.now machine }
     ensures new { IfOk result (λ s. (D.disk (device_under opened)).honest →
         HasBegun (D.disk (device_under opened)) (D.disk (device_of s)) (sha256 cartridge.now) count (encoded machine)) }

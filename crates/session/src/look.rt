@@ -52,7 +52,7 @@ fn logged_of<D: SectorDevice>(opened: &Opened<D>, count: u64, machine: &Machine)
 }
 
 impl<D: SectorDevice> Look<D> {
-    ghost use Rattle.session.specs.Accessors.{device_of, machine_of, rom_of, pending_of, acknowledged_of, is_broken, left_by};
+    ghost use Rattle.session.specs.Accessors.{device_of, machine_of, rom_of, pending_of, acknowledged_of, saved_of, is_broken, left_by};
     ghost use Rattle.session.specs.LookAccessors.{device_of_look, machine_of_look, rom_of_look, count_of_look, logged_of_look, generation_of_look};
 
     /// A look at what was opened, with the machine that was rebuilt, and room for its snapshot.
@@ -147,6 +147,7 @@ impl<D: SectorDevice> Look<D> {
         ensures begun { IfOk result (λ s. (pending_of s ≡ []) × (is_broken s ≡ false) × (rom_of s ≡ cartridge.now)) }
         ensures same { IfOk result (λ s.
             (acknowledged_of s ≡ count_of_look self) × (machine_of s ≡ machine_of_look self)) }
+        ensures saved { IfOk result (λ s. saved_of s ≡ record { count = acknowledged_of s; machine = machine_of s }) }
         ensures of { IfOk result (λ s. IsMachineOf cartridge.now (machine_of s)) }
 
         // what the device stands for, at Ok and at each moment

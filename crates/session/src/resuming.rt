@@ -8,7 +8,7 @@ ghost use Rattle.log_format.specs.Content.{content, generation_in};
 ghost use Rattle.session.specs.Calls.{faults_after};
 ghost use Rattle.session.specs.Stands.{IsAtRest, CanBeTakenUp, StandsAsBefore, stands};
 ghost use Rattle.session.specs.Found.{IsResumeCause};
-ghost use Rattle.session.specs.Accessors.{device_of, machine_of, rom_of, pending_of, acknowledged_of, is_broken, left_by};
+ghost use Rattle.session.specs.Accessors.{device_of, machine_of, rom_of, pending_of, acknowledged_of, saved_of, is_broken, left_by};
 ghost use Rattle.session.specs.declared.error.SessionError.TheVariants.{Memory, Device, Output};
 
 use crate::begin::{begin_with, fault_of, make_room, snapshot_length};
@@ -33,6 +33,7 @@ pub fn resume<D: SectorDevice>(
 ) -> Result<Session<D>, Refused<SessionError, D>>
     // what is taken up
     ensures begun { IfOk result (λ s. (pending_of s ≡ []) × (is_broken s ≡ false) × (rom_of s ≡ cartridge.now)) }
+    ensures saved { IfOk result (λ s. saved_of s ≡ record { count = acknowledged_of s; machine = machine_of s }) }
     ensures of { IfOk result (λ s. IsMachineOf cartridge.now (machine_of s)) }
     ensures stands { IfOk result (λ s. (D.disk device).honest →
         stands cartridge.now (content (D.disk device).sectors) ≡

@@ -1,17 +1,17 @@
 //! A session: a machine, the inputs that are not saved, and the log on its device.
-ghost use Rattle.std.specs.Prelude.{◌≡◌, ◌↔◌, ◌≤◌, ◌<◌, ◌+◌, ◌-◌, ◌^◌, ◌⊎◌, ◌++◌, ◌∷◌, [], false, true, length, vec_capacity, Ok, Err, OnOk, OnErr, IfOk, IfErr, IsErrOf};
+ghost use Rattle.std.specs.Prelude.{◌≡◌, ◌↔◌, ◌≤◌, ◌<◌, ◌+◌, ◌-◌, ◌^◌, ◌⊎◌, ◌++◌, ◌∷◌, [], false, true, length, vec_capacity, Some, Ok, Err, OnOk, OnErr, IfOk, IfErr, IsErrOf};
 ghost use Rattle.sha2.specs.Sha256.{sha256};
 ghost use Rattle.machine.specs.Machine.{Power, State, as_input, applied};
 ghost use Rattle.snapshot.specs.Encoding.{encoded, snapshot_length};
 ghost use Rattle.snapshot.specs.Legal.{IsMachineOf, IsOfImage};
 ghost use Rattle.sector_device.specs.DiskState.{HasAnswered, HasHanded};
 ghost use Rattle.sector_device.specs.Runs.{HoldsSince};
-ghost use Rattle.log_format.specs.Content.{need, content, generation_in};
+ghost use Rattle.log_format.specs.Content.{need, generation_in};
 ghost use Rattle.sector_log.specs.Accessors.{device_of as device_of_store, is_broken as is_broken_store, id_of, entries_of};
 ghost use Rattle.session.specs.Calls.{IsRestoreAnswer, IsSaved, IsSaveCause, most_unsaved, input_answer, faults_after, fits_log};
-ghost use Rattle.session.specs.Stands.{IsAtRest, StandsAtCount, StandsBetween, stands};
+ghost use Rattle.session.specs.Stands.{IsAtRest, StandsAt, StandsBetween};
 ghost use Rattle.session.specs.Inputs.{can_be_logged, entry_of, inputs_of, no_input};
-ghost use Rattle.session.specs.Resting.{IsOfItsRom, own_prop, RestsUnlessBroken, rests_prop};
+ghost use Rattle.session.specs.Resting.{IsOfItsRom, own_prop, LeadsTo, leads_prop, RestsUnlessBroken, rests_prop};
 ghost use Rattle.session.specs.declared.error.SessionError.TheVariants.{Memory};
 
 use crate::entry::{entry_of, no_input};
@@ -24,6 +24,7 @@ use sector_log::{Entry, Store};
 use snapshot::{decode_into, powered};
 use std::alloc::Global;
 use std::mem;
+use std::snapshot::Snapshot;
 
 /// The most inputs that can be unsaved.
 pub const MOST_UNSAVED: u64 = 3_200;
@@ -50,6 +51,8 @@ pub struct Session<D: SectorDevice> {
     /// Room for a snapshot.
     pub(crate) encoded: Vec<u8>,
     pub(crate) acknowledged: u64,
+    /// The machine after the saved inputs, which clauses alone know: it takes no memory.
+    pub(crate) saved: Snapshot<Machine>,
     ghost few: { length pending.items ≤ most_unsaved },
     ghost reserved: { most_unsaved ≤ vec_capacity pending },
     ghost counted: { acknowledged + length pending.items < 2 ^ 64 },
@@ -58,11 +61,12 @@ pub struct Session<D: SectorDevice> {
     ghost large: { need (length encoded.items) ≤ length (D.disk (device_of_store store)).sectors },
     ghost id: { id_of store ≡ sha256 machine.processor.memory.banks.rom },
     ghost own: { IsOfItsRom machine } by { own_prop machine },
-    ghost rests: { RestsUnlessBroken (D.disk (device_of_store store)) (entries_of store) acknowledged pending.items machine (is_broken_store store) } by { rests_prop (D.disk (device_of_store store)) (entries_of store) acknowledged pending.items machine (is_broken_store store) },
+    ghost leads: { LeadsTo saved.value pending.items machine } by { leads_prop saved.value pending.items machine },
+    ghost rests: { RestsUnlessBroken machine.processor.memory.banks.rom (D.disk (device_of_store store)) (entries_of store) (record { count = acknowledged; machine = saved.value }) (is_broken_store store) } by { rests_prop machine.processor.memory.banks.rom (D.disk (device_of_store store)) (entries_of store) (record { count = acknowledged; machine = saved.value }) (is_broken_store store) },
 }
 
 impl<D: SectorDevice> Session<D> {
-    ghost use Rattle.session.specs.Accessors.{device_of, machine_of, rom_of, pending_of, acknowledged_of, is_broken, log_in, generation_in_use, IsUnchanged};
+    ghost use Rattle.session.specs.Accessors.{device_of, machine_of, rom_of, pending_of, acknowledged_of, saved_of, is_broken, log_in, generation_in_use, IsUnchanged};
 
     // A session with nothing pending over the store of a new generation.
     pub(crate) fn at(
@@ -80,19 +84,22 @@ impl<D: SectorDevice> Session<D> {
         requires large { need (length encoded.items) ≤ length (D.disk (device_of_store store)).sectors }
         requires id { id_of store ≡ sha256 machine.processor.memory.banks.rom }
         requires own { IsOfItsRom machine }
-        requires rests { RestsUnlessBroken (D.disk (device_of_store store)) (entries_of store) acknowledged [] machine
-            false }
+        requires rests { RestsUnlessBroken machine.processor.memory.banks.rom (D.disk (device_of_store store))
+            (entries_of store) (record { count = acknowledged; machine = machine }) false }
         ensures store { result.store ≡ store }
         ensures machine { result.machine ≡ machine }
         ensures pending { result.pending.items ≡ [] }
         ensures acknowledged { result.acknowledged ≡ acknowledged }
+        ensures saved { result.saved.value ≡ machine }
     {
+        let saved = Snapshot::of(&machine);
         Session {
             store,
             machine,
             pending,
             encoded,
             acknowledged,
+            saved,
         }
     }
 
@@ -128,16 +135,16 @@ impl<D: SectorDevice> Session<D> {
         &self.pending
     }
 
-    /// A read-only view of the device. Unless the session is broken, its one image stands for the saved inputs, whatever the unsaved ones are;
-    /// what they lead to with the unsaved ones is said where these can be logged.
+    /// A read-only view of the device. Unless the session is broken, its one image stands for the saved inputs and the machine after them,
+    /// whatever the unsaved ones are; what they lead to with the unsaved ones is said where these can be logged.
     pub fn device(&self) -> &D
         ensures device { result.now ≡ device_of self.now }
         ensures rests { is_broken self.now ≡ false → can_be_logged (pending_of self.now) ≡ true →
             (D.disk (device_of self.now)).honest →
             IsAtRest (rom_of self.now) (D.disk (device_of self.now)) (acknowledged_of self.now) (pending_of self.now)
             (machine_of self.now) }
-        ensures counts { is_broken self.now ≡ false → (D.disk (device_of self.now)).honest →
-            StandsAtCount (rom_of self.now) (D.disk (device_of self.now)) (acknowledged_of self.now) }
+        ensures stands { is_broken self.now ≡ false → (D.disk (device_of self.now)).honest →
+            StandsAt (rom_of self.now) (D.disk (device_of self.now)) (saved_of self.now) }
     {
         self.store.device()
     }
@@ -167,6 +174,7 @@ impl<D: SectorDevice> Session<D> {
         ensures kept { (acknowledged_of self.new ≡ acknowledged_of self.old) ×
             (is_broken self.new ≡ is_broken self.old) ×
             (rom_of self.new ≡ rom_of self.old) }
+        ensures saved { saved_of self.new ≡ saved_of self.old }
         ensures log { (log_in self.new ≡ log_in self.old) × (generation_in_use self.new ≡ generation_in_use self.old) }
     {
         if let Err(why) = self.takes_input() {
@@ -219,6 +227,7 @@ impl<D: SectorDevice> Session<D> {
         ensures kept { (acknowledged_of self.new ≡ acknowledged_of self.old) ×
             (is_broken self.new ≡ is_broken self.old) ×
             (rom_of self.new ≡ rom_of self.old) }
+        ensures saved { saved_of self.new ≡ saved_of self.old }
         ensures log { (log_in self.new ≡ log_in self.old) × (generation_in_use self.new ≡ generation_in_use self.old) }
     {
         if let Err(why) = self.takes_input() {
@@ -253,6 +262,7 @@ impl<D: SectorDevice> Session<D> {
         ensures kept { (acknowledged_of self.new ≡ acknowledged_of self.old) ×
             (is_broken self.new ≡ is_broken self.old) ×
             (rom_of self.new ≡ rom_of self.old) }
+        ensures saved { saved_of self.new ≡ saved_of self.old }
         ensures log { (log_in self.new ≡ log_in self.old) × (generation_in_use self.new ≡ generation_in_use self.old) }
     {
         if let Err(why) = self.takes_input() {
@@ -291,18 +301,20 @@ impl<D: SectorDevice> Session<D> {
         ensures nothing { is_broken self.old ≡ false → pending_of self.old ≡ [] → IsUnchanged self.old self.new ×
             (result ≡ Ok (acknowledged_of self.old)) }
         ensures machine { (machine_of self.new ≡ machine_of self.old) × (rom_of self.new ≡ rom_of self.old) }
+        ensures position { IfOk result (λ all. saved_of self.new ≡ record { count = all; machine = machine_of self.old }) }
+        ensures kept { OnErr result (saved_of self.new ≡ saved_of self.old) }
 
         // what the device stands for: at the start, at each moment, and at Ok
         ensures stood { is_broken self.old ≡ false → can_be_logged (pending_of self.old) ≡ true →
             (D.disk (device_of self.old)).honest →
             IsAtRest (rom_of self.old) (D.disk (device_of self.old)) (acknowledged_of self.old) (pending_of self.old)
             (machine_of self.old) }
-        ensures counts { is_broken self.old ≡ false → (D.disk (device_of self.old)).honest →
-            StandsAtCount (rom_of self.old) (D.disk (device_of self.old)) (acknowledged_of self.old) }
+        ensures stands { is_broken self.old ≡ false → (D.disk (device_of self.old)).honest →
+            StandsAt (rom_of self.old) (D.disk (device_of self.old)) (saved_of self.old) }
         ensures images { is_broken self.old ≡ false → (D.disk (device_of self.old)).honest →
             HoldsSince (D.disk (device_of self.old)) (D.disk (device_of self.new))
-            (StandsBetween (can_be_logged (pending_of self.old)) (rom_of self.old)
-            (stands (rom_of self.old) (content (D.disk (device_of self.old)).sectors)) (inputs_of (pending_of self.old))
+            (StandsBetween (can_be_logged (pending_of self.old)) (rom_of self.old) (Some (saved_of self.old))
+            (inputs_of (pending_of self.old))
             (record {
               count = acknowledged_of self.old + length (pending_of self.old);
               machine = machine_of self.old;
@@ -332,6 +344,7 @@ impl<D: SectorDevice> Session<D> {
             Ok(()) => {
                 self.pending.clear();
                 self.acknowledged = all;
+                self.saved = Snapshot::of(&self.machine);
                 Ok(all)
             }
             Err(why) => Err(why),
@@ -343,8 +356,8 @@ impl<D: SectorDevice> Session<D> {
         ensures device { result ≡ device_of self }
         ensures rests { is_broken self ≡ false → can_be_logged (pending_of self) ≡ true → (D.disk result).honest →
             IsAtRest (rom_of self) (D.disk result) (acknowledged_of self) (pending_of self) (machine_of self) }
-        ensures counts { is_broken self ≡ false → (D.disk result).honest →
-            StandsAtCount (rom_of self) (D.disk result) (acknowledged_of self) }
+        ensures stands { is_broken self ≡ false → (D.disk result).honest →
+            StandsAt (rom_of self) (D.disk result) (saved_of self) }
     {
         self.store.into_device()
     }

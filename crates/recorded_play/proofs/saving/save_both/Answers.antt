@@ -12,6 +12,7 @@ use Rattle.session.specs.Calls.{fits_log}
 use Rattle.session.specs.Accessors.{device_of, machine_of, rom_of, pending_of, acknowledged_of, is_broken, log_in, generation_in_use}
 use Rattle.session.specs.Stands.{Position}
 use Rattle.session.specs.declared.error.SessionError.TheVariants.{Output}
+use Rattle.session.proofs.AtRest.{held_from}
 use Rattle.session.proofs.Answering.{answered_value, answered_error, answered_otherwise, answered_refusal}
 use Rattle.session.proofs.StandsLaws.{after_none}
 use Rattle.session.proofs.Writes.{inputs_listed}
@@ -101,7 +102,7 @@ returns-in-Ok-clause-comes g c =
           going_by (sym (append-nil given))
           (going_saved rom (g.D.SectorDevice.disk (device_of was)) (acknowledged_of was) (pending_of was) (machine_of was) from given played (rom_of was) refl
           (g.D.SectorDevice.disk (device_of now)) c.in-Ok.count (acknowledged_of now) (pending_of now) (machine_of now)
-          (c.in-Ok.ensures.answered.honest.1 played.honest) c.in-Ok.ensures.ok.0 c.in-Ok.ensures.ok.1 c.in-Ok.ensures.ok.2 c.in-Ok.ensures.machine.0 (c.in-Ok.ensures.rests played.honest) (c.in-Ok.ensures.images c.requires.whole played.honest));
+          (c.in-Ok.ensures.answered.honest.1 played.honest) c.in-Ok.ensures.ok.0 c.in-Ok.ensures.ok.1 c.in-Ok.ensures.ok.2 c.in-Ok.ensures.machine.0 (c.in-Ok.ensures.rests played.honest) (held_from _ _ _ (c.in-Ok.ensures.stands c.requires.whole played.honest) (c.in-Ok.ensures.images c.requires.whole played.honest)));
       records = λ rom all held.
           appended rom _ (new g before) (acknowledged_of was) (pending_of was) all held (images g before held.honest)
           (acknowledged_of now) (pending_of now) (c.append.ensures.answered.honest.1 held.honest) size c.in-Ok.ensures.ok.2 (done g before c.in_default.ensures.appended.appended held.honest);
@@ -134,7 +135,7 @@ returns-in-Err-save-clause-halts g c =
     let moved = g.D.SectorDevice.disk (device_of now) in
     let stops = λ (rom : List ℕ) (from : Position) (given : List Input) (played : IsPlayedAt rom (place was) from given).
     stopped_failed rom (g.D.SectorDevice.disk (device_of was)) (acknowledged_of was) (pending_of was) (machine_of was) from given played (rom_of was) refl
-    moved (acknowledged_of now) (c.in-Err-save.ensures.answered.honest.1 played.honest) c.in-Err-save.ensures.refused.1 (g.met.D.SectorDevice.counts_now (device_of now)) (c.in-Err-save.ensures.images c.requires.whole played.honest) in
+    moved (acknowledged_of now) (c.in-Err-save.ensures.answered.honest.1 played.honest) c.in-Err-save.ensures.refused.1 (g.met.D.SectorDevice.counts_now (device_of now)) (held_from _ _ _ (c.in-Err-save.ensures.stands c.requires.whole played.honest) (c.in-Err-save.ensures.images c.requires.whole played.honest)) in
     record {
       stopped = λ rom from given played. stopped_by (sym (append-nil given)) (stops rom from given played);
       behind = λ rom all step.

@@ -76,6 +76,9 @@ pub returns-in-Ok-clause-begun : goal.returns-in-Ok-clause-begun
 returns-in-Ok-clause-begun g c =
     (c.at.ensures.acknowledged, c.at.ensures.pending, ap is_broken_store c.at.ensures.store ∙ c.in-Ok.ensures.begun.unbroken, c.at.ensures.machine)
 
+pub returns-in-Ok-clause-saved : goal.returns-in-Ok-clause-saved
+returns-in-Ok-clause-saved g c = λ i. record { count = c.at.ensures.acknowledged i; machine = c.at.ensures.saved i }
+
 pub returns-in-Ok-clause-of : goal.returns-in-Ok-clause-of
 returns-in-Ok-clause-of g c = machine_of_rom c.args.cartridge.now c.args.machine c.requires.rom c.requires.own c.encode.ensures.legal
 

@@ -1,8 +1,8 @@
-use Rattle.std.proofs.Common.{[], inl, inr, refl, subst}
+use Rattle.std.proofs.Common.{[], inl, inr, refl, subst, ap, ◌∙◌}
 use Rattle.machine.specs.Machine.{MachineState}
 use Rattle.sector_device.specs.Runs.{HoldsSince}
 use Rattle.session.specs.Calls.{HasOldContentOrGame}
-use Rattle.session.specs.Stands.{IsAtRest}
+use Rattle.session.specs.Stands.{IsAtRest, Position}
 use Rattle.session.specs.Accessors.{device_of, left_by}
 use Rattle.session.proofs.Beginnings.{if_ok, since_now}
 use Rattle.session.proofs.Writes.{since_weaker}
@@ -34,3 +34,8 @@ pub returns-clause-images : goal.returns-clause-images
 returns-clause-images g c = λ honest.
     subst (λ (m : MachineState). HoldsSince (g.D.SectorDevice.disk c.args.device) (g.D.SectorDevice.disk (left_by c.new_game_from.result))
     (HasOldContentOrGame c.args.cartridge.now m (g.D.SectorDevice.disk c.args.device))) c.in-Ok.ensures.start (c.new_game_from.ensures.images honest)
+
+pub returns-clause-saved : goal.returns-clause-saved
+returns-clause-saved g c =
+    let of : MachineState → Position = λ m. record { count = 0; machine = m } in
+    if_ok c.new_game_from.result c.new_game_from.ensures.saved (λ s saved. saved ∙ ap of c.in-Ok.ensures.start)

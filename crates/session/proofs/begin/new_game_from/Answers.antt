@@ -99,3 +99,6 @@ returns-clause-machine g c =
 
 pub returns-clause-begun : goal.returns-clause-begun
 returns-clause-begun g c = if_ok c.begin_with.result c.begin_with.ensures.begun (λ s begun. (begun.0, begun.1, begun.2))
+
+pub returns-clause-saved : goal.returns-clause-saved
+returns-clause-saved g c = c.begin_with.ensures.saved

@@ -163,3 +163,8 @@ returns-in-Err-recovered-clause-no_report g c =
 
 pub returns-in-Ok-recovered-clause-no_report : goal.returns-in-Ok-recovered-clause-no_report
 returns-in-Ok-recovered-clause-no_report g c = if_err c.begin_with.result c.begin_with.ensures.cause (λ refused. begin_not_output _ _ _ refused.why)
+
+pub returns-in-Ok-recovered-clause-saved : goal.returns-in-Ok-recovered-clause-saved
+returns-in-Ok-recovered-clause-saved g c =
+    if_ok_both c.begin_with.result c.begin_with.ensures.begun c.begin_with.ensures.saved
+    (λ s begun saved. saved ∙ (λ i. record { count = sym begun.0 i; machine = sym begun.3 i }))

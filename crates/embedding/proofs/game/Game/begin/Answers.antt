@@ -1,7 +1,7 @@
 use Rattle.std.proofs.Common.{◌≡◌, ◌∙◌, ℕ, List, [], ap, subst}
 use Rattle.machine.specs.Machine.{start}
 use Rattle.session.specs.Accessors.{device_of}
-use Rattle.session.specs.Stands.{IsAtRest}
+use Rattle.session.specs.Stands.{IsAtRest, Position}
 use Rattle.embedding.specs.HostDevices.{host_disk}
 use Rattle.embedding.proofs.Counting.{handed_same, same_count}
 use Rattle.embedding.proofs.game.Game.begin.Goals as goal
@@ -24,3 +24,8 @@ returns-in-Ok-new_game-clause-first c =
 pub returns-in-Ok-new_game-clause-sectors : goal.returns-in-Ok-new_game-clause-sectors
 returns-in-Ok-new_game-clause-sectors c =
     same_count c.in-Ok-new.device (device_of c.in-Ok-new_game.session) c.in-Ok-new_game.ensures.answered.count ∙ c.in-Ok-new.ensures.count
+
+pub returns-in-Ok-new_game-clause-saved : goal.returns-in-Ok-new_game-clause-saved
+returns-in-Ok-new_game-clause-saved c =
+    let at : List ℕ → Position = λ rom. record { count = 0; machine = start rom } in
+    c.in-Ok-new_game.ensures.saved ∙ ap at c.in-Ok.ensures.image

@@ -2,7 +2,7 @@ use Rattle.std.proofs.Common.{◌≡◌, ◌∙◌, ℕ, List, [], length, true,
 use Rattle.cartridge.specs.Header.{has_battery}
 use Rattle.machine.specs.Machine.{MachineState}
 use Rattle.session.specs.Accessors.{device_of}
-use Rattle.session.specs.Stands.{IsAtRest}
+use Rattle.session.specs.Stands.{IsAtRest, Position}
 use Rattle.battery_files.specs.Importing.{IsImportCause as IsFileCause, is_taken_length, start_with}
 use Rattle.embedding.specs.HostDevices.{host_disk}
 use Rattle.embedding.proofs.Counting.{handed_same, same_count}
@@ -42,3 +42,8 @@ returns-in-Ok-new_game_from-clause-first c =
 pub returns-in-Ok-new_game_from-clause-sectors : goal.returns-in-Ok-new_game_from-clause-sectors
 returns-in-Ok-new_game_from-clause-sectors c =
     same_count c.in-Ok-new.device (device_of c.in-Ok-new_game_from.session) c.in-Ok-new_game_from.ensures.answered.count ∙ c.in-Ok-new.ensures.count
+
+pub returns-in-Ok-new_game_from-clause-saved : goal.returns-in-Ok-new_game_from-clause-saved
+returns-in-Ok-new_game_from-clause-saved c =
+    let at : MachineState → Position = λ m. record { count = 0; machine = m } in
+    c.in-Ok-new_game_from.ensures.saved ∙ ap at (c.in-Ok-machine_with_battery.ensures.machine ∙ ap (λ (rom : List ℕ). start_with rom c.args.battery.now) c.in-Ok.ensures.image)

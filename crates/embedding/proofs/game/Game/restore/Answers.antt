@@ -12,6 +12,11 @@ returns-in-Same-clause-answer c =
     let taken = input_answer (is_broken old) (length (pending_of old)) (acknowledged_of old + length (pending_of old)) in
     inl ((c.in-Same.ensures.own refl).1, subst (λ (snapshot : List ℕ). IsRestoreAnswer c.args.self.now.cartridge snapshot taken c.restore.result) (behind_header c.args.bytes.now) c.restore.ensures.answer)
 
+pub returns-in-Same-clause-kept : goal.returns-in-Same-clause-kept
+returns-in-Same-clause-kept c =
+    let is = c.restore.ensures in
+    record { device = is.device; saved = is.saved; rom = is.kept.1.1; broken = is.kept.1.0; log = is.log.0; generation = is.log.1 }
+
 pub returns-in-Same-clause-machine : goal.returns-in-Same-clause-machine
 returns-in-Same-clause-machine c =
     on_ok c.restore.result c.restore.ensures.machine
@@ -27,6 +32,11 @@ returns-in-Other-clause-answer c =
       told_answer c.restore-in-Other.result c.told_of_other.result c.told_of_other.ensures.damaged c.told_of_other.ensures.same c.args.self.now.cartridge (is_broken old) (length (pending_of old))
           (acknowledged_of old + length (pending_of old)) c.restore-in-Other.ensures.answer,
     ))
+
+pub returns-in-Other-clause-kept : goal.returns-in-Other-clause-kept
+returns-in-Other-clause-kept c =
+    let is = c.restore-in-Other.ensures in
+    record { device = is.device; saved = is.saved; rom = is.kept.1.1; broken = is.kept.1.0; log = is.log.0; generation = is.log.1 }
 
 pub returns-in-Other-clause-machine : goal.returns-in-Other-clause-machine
 returns-in-Other-clause-machine c =
@@ -55,6 +65,11 @@ returns-in-Nothing-clause-answer c =
       c.in-Nothing.ensures.none refl,
       none_answer c.args.self.now.cartridge _ c.restore-in-Nothing.result c.restore-in-Nothing.ensures.answer,
     ))
+
+pub returns-in-Nothing-clause-kept : goal.returns-in-Nothing-clause-kept
+returns-in-Nothing-clause-kept c =
+    let is = c.restore-in-Nothing.ensures in
+    record { device = is.device; saved = is.saved; rom = is.kept.1.1; broken = is.kept.1.0; log = is.log.0; generation = is.log.1 }
 
 pub returns-in-Nothing-clause-machine : goal.returns-in-Nothing-clause-machine
 returns-in-Nothing-clause-machine c =

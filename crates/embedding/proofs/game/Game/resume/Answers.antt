@@ -65,3 +65,6 @@ returns-in-Ok-resume-clause-handed c =
     let answered = c.in-Ok-resume.ensures.answered in
     handed_same device now answered.follows answered.handed ∙ c.fill_from.ensures.handed
     ∙ ap (image_calls c.args.image.now) (sym (same_count device now answered.count ∙ c.fill_from.ensures.count))
+
+pub returns-in-Ok-resume-clause-saved : goal.returns-in-Ok-resume-clause-saved
+returns-in-Ok-resume-clause-saved c = c.in-Ok-resume.ensures.saved

@@ -29,5 +29,17 @@ returns-clause-images c = λ whole. c.save.ensures.images whole tt
 pub returns-clause-stood : goal.returns-clause-stood
 returns-clause-stood c = λ whole few. c.save.ensures.stood whole few tt
 
-pub returns-clause-counts : goal.returns-clause-counts
-returns-clause-counts c = λ whole. c.save.ensures.counts whole tt
+pub returns-clause-stands : goal.returns-clause-stands
+returns-clause-stands c = λ whole. c.save.ensures.stands whole tt
+
+pub returns-clause-position : goal.returns-clause-position
+returns-clause-position c = c.save.ensures.position
+
+pub returns-clause-kept : goal.returns-clause-kept
+returns-clause-kept c = c.save.ensures.kept
+
+pub returns-clause-whole : goal.returns-clause-whole
+returns-clause-whole c = if_ok c.save.result c.save.ensures.ok (λ all is. is.4)
+
+pub returns-clause-unchanged : goal.returns-clause-unchanged
+returns-clause-unchanged c = c.save.ensures.unchanged

@@ -70,3 +70,8 @@ returns-clause-untouched g c = c.begin_with.ensures.untouched
 
 pub returns-clause-answered : goal.returns-clause-answered
 returns-clause-answered g c = c.begin_with.ensures.answered
+
+pub returns-clause-saved : goal.returns-clause-saved
+returns-clause-saved g c =
+    if_ok_both c.begin_with.result c.begin_with.ensures.begun c.begin_with.ensures.saved
+    (λ s begun saved. saved ∙ (λ i. record { count = sym begun.0 i; machine = sym begun.3 i }))

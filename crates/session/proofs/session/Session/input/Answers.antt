@@ -1,12 +1,11 @@
 use Rattle.std.proofs.Common.{◌++◌, ◌∷◌, [], refl, sym, ap, ◌∙◌}
 use Rattle.sha2.specs.Sha256.{sha256}
 use Rattle.snapshot.specs.Encoding.{snapshot_length}
-use Rattle.sector_log.specs.Accessors.{device_of as device_of_store, entries_of}
 use Rattle.machine.specs.Machine.{Input, as_input}
 use Rattle.session.specs.Inputs.{can_be_logged, inputs_of}
 use Rattle.session.proofs.StandsLaws.{logged_append}
 use Rattle.session.proofs.Beginnings.{own_again}
-use Rattle.session.proofs.Saving.{given_passes, logged_more, same_after, few_more, counted_more, rests_more}
+use Rattle.session.proofs.Saving.{given_passes, logged_more, same_after, few_more, counted_more, leads_more, rests_by}
 use Rattle.session.proofs.session.Session.input.Goals as goal
 
 pub invariant_of-self-clause-room : goal.invariant_of-self-clause-room
@@ -23,8 +22,12 @@ invariant_of-self-clause-own g c =
 
 pub invariant_of-self-clause-rests : goal.invariant_of-self-clause-rests
 invariant_of-self-clause-rests g c = λ whole honest.
-    rests_more (g.D.SectorDevice.disk (device_of_store c.args.self.now.store)) (entries_of c.args.self.now.store) c.args.self.now.acknowledged c.args.self.now.pending.items c.push.new.entries.items
-    c.entry_of.result c.args.self.now.machine c.apply.new.self (as_input c.args.input) (given_passes c.args.input) (c.args.self.now.rests whole honest) c.push.ensures.items c.entry_of.ensures.is_input c.entry_of.ensures.input c.apply.ensures
+    rests_by (same_after c.args.self.now.machine c.apply.new.self (as_input c.args.input) (given_passes c.args.input) c.apply.ensures).rom (c.args.self.now.rests whole honest)
+
+pub invariant_of-self-clause-leads : goal.invariant_of-self-clause-leads
+invariant_of-self-clause-leads g c =
+    leads_more c.args.self.now.saved.value c.args.self.now.pending.items c.push.new.entries.items c.entry_of.result c.args.self.now.machine c.apply.new.self (as_input c.args.input)
+    c.args.self.now.leads c.push.ensures.items c.entry_of.ensures.is_input c.entry_of.ensures.input c.apply.ensures
 
 pub returns-clause-kept : goal.returns-clause-kept
 returns-clause-kept g c = (refl, refl, (same_after c.args.self.now.machine c.apply.new.self (as_input c.args.input) (given_passes c.args.input) c.apply.ensures).rom)

@@ -3,9 +3,8 @@ use Rattle.sha2.specs.Sha256.{sha256}
 use Rattle.cartridge.specs.Header.{ram_length_of}
 use Rattle.snapshot.specs.Encoding.{snapshot_length}
 use Rattle.snapshot.specs.Legal.{IsMachineOf}
-use Rattle.sector_log.specs.Accessors.{device_of as device_of_store, entries_of}
 use Rattle.session.proofs.Beginnings.{own_of_machine, same_as_start}
-use Rattle.session.proofs.Saving.{few_more, counted_more, rests_otherwise}
+use Rattle.session.proofs.Saving.{few_more, counted_more, leads_otherwise, rests_by}
 use Rattle.session.proofs.session.Session.power.Goals as goal
 
 pub powered-requires : goal.powered-requires
@@ -29,9 +28,10 @@ invariant_of-self-clause-own g c =
 pub invariant_of-self-clause-rests : goal.invariant_of-self-clause-rests
 invariant_of-self-clause-rests g c = λ whole honest.
     let of = subst (IsMachineOf c.args.cartridge.now) (sym c.replace.ensures.after) c.in-Ok.ensures.of in
-    rests_otherwise (g.D.SectorDevice.disk (device_of_store c.args.self.now.store)) (entries_of c.args.self.now.store) c.args.self.now.acknowledged c.args.self.now.pending.items c.push.new.entries.items
-    c.no_input.result c.args.self.now.machine c.replace.new.dest (c.args.self.now.rests whole honest) c.push.ensures.items c.no_input.ensures
-    (of.rom ∙ sym c.requires)
+    rests_by (of.rom ∙ sym c.requires) (c.args.self.now.rests whole honest)
+
+pub invariant_of-self-clause-leads : goal.invariant_of-self-clause-leads
+invariant_of-self-clause-leads g c = leads_otherwise c.args.self.now.saved.value c.args.self.now.pending.items c.push.new.entries.items c.no_input.result c.replace.new.dest c.push.ensures.items c.no_input.ensures
 
 pub returns-in_default-powered-clause-answer : goal.returns-in_default-powered-clause-answer
 returns-in_default-powered-clause-answer g c = inr (refl, sym c.takes_input.ensures.answer ∙ c.in_default.is)

@@ -5,11 +5,10 @@ use Rattle.snapshot.specs.Encoding.{snapshot_length}
 use Rattle.snapshot.specs.Legal.{IsLegalSnapshot}
 use Rattle.snapshot.specs.Table.{kind_of_image}
 use Rattle.snapshot.proofs.Machines.{encoded_legal}
-use Rattle.sector_log.specs.Accessors.{device_of as device_of_store, entries_of}
 use Rattle.session.specs.Calls.{IsRestoreAnswer}
 use Rattle.session.specs.declared.error.SessionError.{SessionError}
 use Rattle.session.proofs.Beginnings.{own_of_machine}
-use Rattle.session.proofs.Saving.{few_more, counted_more, rests_otherwise}
+use Rattle.session.proofs.Saving.{few_more, counted_more, leads_otherwise, rests_by}
 use Rattle.session.proofs.SameSession.{same_session}
 use Rattle.session.proofs.session.Session.restore.Goals as goal
 
@@ -36,9 +35,10 @@ invariant_of-self-clause-own g c = own_of_machine c.args.cartridge.now c.decode_
 
 pub invariant_of-self-clause-rests : goal.invariant_of-self-clause-rests
 invariant_of-self-clause-rests g c = λ whole honest.
-    rests_otherwise (g.D.SectorDevice.disk (device_of_store c.args.self.now.store)) (entries_of c.args.self.now.store) c.args.self.now.acknowledged c.args.self.now.pending.items c.push.new.entries.items
-    c.no_input.result c.args.self.now.machine c.decode_into.new.machine (c.args.self.now.rests whole honest) c.push.ensures.items c.no_input.ensures
-    (c.in-Ok.ensures.ok.0.rom ∙ sym c.requires)
+    rests_by (c.in-Ok.ensures.ok.0.rom ∙ sym c.requires) (c.args.self.now.rests whole honest)
+
+pub invariant_of-self-clause-leads : goal.invariant_of-self-clause-leads
+invariant_of-self-clause-leads g c = leads_otherwise c.args.self.now.saved.value c.args.self.now.pending.items c.push.new.entries.items c.no_input.result c.decode_into.new.machine c.push.ensures.items c.no_input.ensures
 
 pub returns-in-Ok-clause-answer : goal.returns-in-Ok-clause-answer
 returns-in-Ok-clause-answer g c =
