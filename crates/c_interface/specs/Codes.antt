@@ -27,6 +27,10 @@ done = 0
 abbrev pub no_memory : ℕ
 no_memory = 1
 
+-- bytes that are no text of SAVE.time
+abbrev pub no_time : ℕ
+no_time = 22
+
 -- rom length, cartridge type, ram code, too many banks
 abbrev pub cart_code : CartError → ℕ
 cart_code (Length n) = 2

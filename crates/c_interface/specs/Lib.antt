@@ -1,2 +1,3 @@
+pub mod Clocks
 pub mod Codes
 pub mod Handles

@@ -14,6 +14,9 @@ pub const DONE: u32 = 0;
 /// Want of memory.
 pub const NO_MEMORY: u32 = 1;
 
+/// Bytes that are no text of SAVE.time.
+pub const NO_TIME: u32 = 22;
+
 fn cart_code(why: CartError) -> u32
     ensures code { result ≡ cart_code why }
     ensures refused { ¬ (result ≡ done) }
