@@ -27,6 +27,7 @@ CODES = [
     ('OUTPUT_FAILED', 'output failed'),
     ('NO_BATTERY', 'no battery'),
     ('BATTERY_LENGTH', 'battery length N, M needed'),
+    ('NO_TIME', ('no time', 'the bytes are no text of SAVE.time')),
 ]
 
 # what a line means for a program that has bytes and no files

@@ -46,6 +46,18 @@ uint64_t gbkeep_count_session(struct handle session, struct handle *out);
 size_t gbkeep_battery_length_session(struct handle session, struct handle *out);
 uint32_t gbkeep_battery_session(struct handle session, uint8_t *bytes, size_t length, struct handle *out);
 
+uint32_t gbkeep_look_clock(const uint8_t *text, size_t length, uint64_t count, uint64_t between, uint64_t date, gbkeep_clock_found *out);
+uint32_t gbkeep_read_clock(const uint8_t *text, size_t length, size_t before, gbkeep_clock_line *line);
+uint32_t gbkeep_open_clock(const uint8_t *text, size_t length, uint64_t count, uint64_t date, uint64_t moment, uint32_t answer, gbkeep_clock *clock);
+uint64_t gbkeep_write_clock(const gbkeep_clock_line *line, uint8_t *text, size_t length);
+uint32_t gbkeep_due_clock(const gbkeep_clock *clock, uint64_t moment);
+uint64_t gbkeep_claim_clock(gbkeep_clock *clock, uint64_t count, uint64_t moment, gbkeep_clock_line *line, uint8_t *text, size_t length);
+void gbkeep_claimed_clock(gbkeep_clock *clock, const gbkeep_clock_line *line);
+uint32_t gbkeep_give_clock(gbkeep_clock *clock);
+uint64_t gbkeep_note_clock(gbkeep_clock *clock, uint64_t saved, gbkeep_clock_line *line, uint8_t *text, size_t length);
+void gbkeep_noted_clock(gbkeep_clock *clock, const gbkeep_clock_line *line);
+void gbkeep_return_clock(gbkeep_clock *clock, uint64_t until);
+
 struct gbkeep_machine {
     struct handle handle;
     size_t state_length;
@@ -301,4 +313,59 @@ uint32_t gbkeep_session_battery(gbkeep_session *session, uint8_t *bytes, size_t 
         return GBKEEP_WRONG_LENGTH;
     }
     return gbkeep_battery_session(session->handle, write_to(bytes, length), length, &session->handle);
+}
+
+uint32_t gbkeep_clock_look(const uint8_t *text, size_t length, uint64_t count, uint64_t between, uint64_t date, gbkeep_clock_found *out) {
+    NEEDS(out != NULL);
+    return gbkeep_look_clock(read_from(text, length), length, count, between, date, out);
+}
+
+uint32_t gbkeep_clock_line_of(const uint8_t *text, size_t length, size_t before, gbkeep_clock_line *out) {
+    NEEDS(out != NULL);
+    return gbkeep_read_clock(read_from(text, length), length, before, out);
+}
+
+uint32_t gbkeep_clock_open(const uint8_t *text, size_t length, uint64_t count, uint64_t date, uint64_t moment, uint32_t answer, gbkeep_clock *out) {
+    NEEDS(out != NULL);
+    return gbkeep_open_clock(read_from(text, length), length, count, date, moment, answer, out);
+}
+
+size_t gbkeep_clock_text(const gbkeep_clock_line *line, uint8_t *text) {
+    NEEDS(line != NULL && text != NULL);
+    return (size_t)gbkeep_write_clock(line, text, GBKEEP_CLOCK_TEXT);
+}
+
+uint32_t gbkeep_clock_due(const gbkeep_clock *clock, uint64_t moment) {
+    NEEDS(clock != NULL);
+    return gbkeep_due_clock(clock, moment);
+}
+
+size_t gbkeep_clock_claim(gbkeep_clock *clock, uint64_t count, uint64_t moment, gbkeep_clock_line *line, uint8_t *text) {
+    NEEDS(clock != NULL && line != NULL && text != NULL);
+    return (size_t)gbkeep_claim_clock(clock, count, moment, line, text, GBKEEP_CLOCK_TEXT);
+}
+
+void gbkeep_clock_claimed(gbkeep_clock *clock, const gbkeep_clock_line *line) {
+    NEEDS(clock != NULL && line != NULL);
+    gbkeep_claimed_clock(clock, line);
+}
+
+uint32_t gbkeep_clock_give(gbkeep_clock *clock) {
+    NEEDS(clock != NULL);
+    return gbkeep_give_clock(clock);
+}
+
+size_t gbkeep_clock_note(gbkeep_clock *clock, uint64_t saved, gbkeep_clock_line *line, uint8_t *text) {
+    NEEDS(clock != NULL && line != NULL && text != NULL);
+    return (size_t)gbkeep_note_clock(clock, saved, line, text, GBKEEP_CLOCK_TEXT);
+}
+
+void gbkeep_clock_noted(gbkeep_clock *clock, const gbkeep_clock_line *line) {
+    NEEDS(clock != NULL && line != NULL);
+    gbkeep_noted_clock(clock, line);
+}
+
+void gbkeep_clock_go_back(gbkeep_clock *clock, uint64_t until) {
+    NEEDS(clock != NULL);
+    gbkeep_return_clock(clock, until);
 }

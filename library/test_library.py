@@ -26,7 +26,7 @@ from unittest import mock
 HERE = Path(__file__).resolve().parent
 TOP = HERE.parent
 from gbkeep import AnyGame, AnyMachine, DebugMachine, Game, Machine, NoState, Picture, Refused, Session, header_of, save_files, sectors_needed
-from gbkeep.library import find_library
+from gbkeep.library import BEFORE, BEHIND, ELSEWHERE, FAR_BEFORE, FAR_BEHIND, HERE, NO_TIME, NOTHING, OLDER, Clock, clock_lines, find_library, look_at_clock
 from scripts.doctor import tries
 from scripts.not_tried import note
 
@@ -559,6 +559,101 @@ class InPython(InFolder):
                 self.assertEqual((again.state(), again.count), (session.state(), told))
             session.close()
             image, given = bytes(disk), told
+
+
+YEAR = 366 * 86_400
+
+
+class Clocks(unittest.TestCase):
+    """The clock of a cartridge: what is written, what is given, and what is asked."""
+
+    def test_a_minute_is_claimed_given_and_due_no_more(self):
+        clock = Clock(b'10 1000\n', 10, 1_000_999, 5_000)
+        self.assertEqual((clock.until, clock.text(), clock.due(5_000), clock.claim(10, 5_000)), (1_000, b'10 1000\n', 0, b''))
+        self.assertEqual((clock.due(65_000), clock.claim(12, 65_000)), (60, b'13 1060\n10 1000\n'))
+        self.assertEqual((clock.give(), clock.until), (0, 1_000))
+        # what was claimed and not written is due again
+        self.assertEqual(clock.claim(14, 66_000), b'15 1061\n10 1000\n')
+        clock.claimed()
+        self.assertEqual((clock.due(66_000), clock.give(), clock.give(), clock.until), (61, 61, 0, 1_061))
+        self.assertEqual((clock.due(66_000), clock.claim(15, 67_000)), (0, b'16 1062\n15 1061\n'))
+
+    def test_a_note_names_a_game_that_was_saved(self):
+        clock = Clock(b'10 1000\n', 10, 1_000_000, 0)
+        self.assertEqual((clock.note(10), clock.note(70)), (b'', b'70 1000\n'))
+        clock.noted()
+        self.assertEqual((clock.note(70), clock.claim(70, 1_000)), (b'', b'71 1001\n70 1000\n'))
+
+    def test_a_game_that_goes_back_is_given_the_seconds_again(self):
+        clock = Clock(b'10 1000\n', 10, 1_060_000, 0)
+        clock.claim(20, 0)
+        clock.claimed()
+        self.assertEqual(clock.give(), 60)
+        clock.go_back(1_020)
+        self.assertEqual((clock.due(1_000), clock.note(30), clock.claim(30, 1_000)), (41, b'', b'31 1061\n21 1060\n'))
+
+    def test_a_cut_at_any_write_gives_no_second_twice(self):
+        for cut in range(5):
+            saved, text, given = 10, b'10 1000\n', []
+            clock = Clock(text, saved, 1_100_000, 0)
+            if cut > 0:
+                text = clock.text()
+            if cut > 1:
+                text = clock.claim(saved, 0)
+            if cut > 2:
+                clock.claimed()
+                given.append(clock.give())
+                if cut > 3:
+                    saved += 1
+                else:
+                    given.pop()
+            later = Clock(text, saved, 1_200_000, 0)
+            later.claim(saved, 0)
+            later.claimed()
+            self.assertEqual(sum(given) + later.give(), 200, cut)
+
+    def test_what_is_asked_and_told(self):
+        lines = b'10 40000000\n'
+        for count, date, wanted in ((10, 40_000_500, (BEHIND, 500, HERE)), (10, 39_999_940, (NOTHING, 0, HERE)), (10, 39_999_939, (BEFORE, 61, HERE)),
+                                    (10, 0, (FAR_BEFORE, 40_000_000, HERE)), (10, 40_000_000 + YEAR, (BEHIND, YEAR, HERE)),
+                                    (10, 80_000_000, (FAR_BEHIND, 40_000_000, HERE)), (9, 40_000_000, (NOTHING, 0, OLDER)),
+                                    (135, 40_000_000, (NOTHING, 0, HERE)), (136, 40_000_001, (BEHIND, 1, ELSEWHERE))):
+            found = look_at_clock(lines, count, 125, 1_000 * date)
+            self.assertEqual((found.lines, found.away, found.seconds, found.played), (1, *wanted), (count, date))
+        found = look_at_clock(b'', 136, 125, 80_000_000_000)
+        self.assertEqual((found.lines, found.away, found.seconds, found.played), (0, NOTHING, 0, HERE))
+
+    def test_more_than_a_year_waits_for_an_answer(self):
+        date = 1_000 * (1_000 + 400 * 86_400)
+        for text, gives, wanted in ((b'10 1000\n', None, (1_000, 0, 5)), (b'10 1000\n', True, (1_000, 400 * 86_400, 400 * 86_400 + 5)),
+                                    (b'10 1000\n', False, (34_561_000, 0, 5)), (b'', None, (34_561_000, 0, 5))):
+            clock = Clock(text, 10, date, 0, gives)
+            self.assertEqual((clock.until, clock.due(0), clock.due(5_000)), wanted, (text, gives))
+
+    def test_texts_that_are_read_and_that_are_not(self):
+        most = b'18446744073709551615 99999999999\n'
+        for text, wanted in ((b'', []), (b'12 1060\n10 1000', [(12, 1_060), (10, 1_000)]), (most * 8, [(2 ** 64 - 1, 99_999_999_999)] * 8), (b'0 0\n', [(0, 0)])):
+            self.assertEqual(clock_lines(text), wanted)
+            self.assertEqual(Clock(text, 5, 0, 0).until, max((until for _, until in wanted), default=0))
+        for text in (b'\n', b'1', b'1 ', b' 1', b'1  2', b'1 2 3', b'+1 2', b'01 2', b'1 02', b'1 2\r\n', b'1 100000000000', b'18446744073709551616 1', b'1 2\n\n',
+                     b'1 \xff', bytes(8), b'1 2\n' * 9, b'1 2\n' * 200):
+            for call in (clock_lines, lambda text: Clock(text, 5, 0, 0), lambda text: look_at_clock(text, 5, 125, 0)):
+                with self.assertRaises(Refused) as raised:
+                    call(text)
+                self.assertEqual((raised.exception.code, raised.exception.line), (NO_TIME, 'no time'), text)
+
+    def test_whatever_a_clock_holds_is_answered(self):
+        """A host may hand in any numbers; no call fails, and no line names more than the greatest ones."""
+        chance = random.Random(1)
+        edges = [0, 1, 2 ** 32 - 1, 2 ** 32, 99_999_999_999, 2 ** 63, 2 ** 64 - 1]
+        for _ in range(2_000):
+            clock = Clock(b'10 1000\n', *(chance.choice(edges) for _ in range(3)))
+            for _ in range(4):
+                clock.go_back(chance.choice(edges))
+                text = clock.claim(chance.choice(edges), chance.choice(edges)) or clock.note(chance.choice(edges))
+                self.assertTrue(not text or text.endswith(b'\n') and len(text) <= 84, text)
+                clock.claimed()
+                self.assertLess(clock.give(), 2 ** 32)
 
 
 class Index:

@@ -108,7 +108,7 @@ def build(out, proved, compiler, debug=False, archiver='ar'):
     archive.write_bytes(proved.read_bytes())
     run([archiver, 'rD', archive, *objects], stderr=subprocess.DEVNULL)
     names = out / 'gbkeep.map'
-    names.write_text('{ global: gbkeep_machine_*; gbkeep_session_*; gbkeep_fault_text; local: *; };\n', encoding='utf-8')
+    names.write_text('{ global: gbkeep_clock_*; gbkeep_machine_*; gbkeep_session_*; gbkeep_fault_text; local: *; };\n', encoding='utf-8')
     if not debug:
         run([compiler, '-shared', '-s', f'-Wl,-soname,{SONAME}', f'-Wl,--version-script={names}', '-Wl,--gc-sections', '-Wl,-z,relro,-z,now',
              '-o', out / SHARED, '-Wl,--whole-archive', archive, '-Wl,--no-whole-archive'])

@@ -27,7 +27,7 @@ from .game import Picture, prefix
 from .input_files import SECTOR
 from .machines import MOST_GIVEN, PICTURE_LENGTH, Buffer, Cart, NoState, Played, Refused, bytes_of, number, rom_of
 
-SAVE_FIRST, DAMAGED_SNAPSHOT, OTHER_CARTRIDGE = 15, 6, 10
+SAVE_FIRST, DAMAGED_SNAPSHOT, OTHER_CARTRIDGE, NO_TIME = 15, 6, 10, 22
 MOST_UNSAVED = 3_200
 # Python sees a Ctrl-C when a call of C has ended: of so many frames within some 50 ms
 FRAMES_AT_ONCE = 1_000
@@ -72,7 +72,7 @@ def advice_of(line: str) -> str:
     return ADVICE[line] if line in ADVICE else next((advice for fault, advice in cut if fault == line), '')
 
 
-_POINTER, _LENGTH, _WORD = ctypes.c_void_p, ctypes.c_size_t, ctypes.c_uint32
+_POINTER, _LENGTH, _WORD, _LONG = ctypes.c_void_p, ctypes.c_size_t, ctypes.c_uint32, ctypes.c_uint64
 _CALLS = {
     'fault_text': (ctypes.c_char_p, _WORD),
     'machine_new': (_WORD, _POINTER, _LENGTH, _POINTER),
@@ -101,14 +101,25 @@ _CALLS = {
     'session_state': (_WORD, _POINTER, _POINTER, _LENGTH),
     'session_battery_length': (_LENGTH, _POINTER),
     'session_battery': (_WORD, _POINTER, _POINTER, _LENGTH),
-    'session_count': (ctypes.c_uint64, _POINTER),
+    'session_count': (_LONG, _POINTER),
+    'clock_look': (_WORD, _POINTER, _LENGTH, _LONG, _LONG, _LONG, _POINTER),
+    'clock_line_of': (_WORD, _POINTER, _LENGTH, _LENGTH, _POINTER),
+    'clock_open': (_WORD, _POINTER, _LENGTH, _LONG, _LONG, _LONG, _WORD, _POINTER),
+    'clock_text': (_LENGTH, _POINTER, _POINTER),
+    'clock_due': (_WORD, _POINTER, _LONG),
+    'clock_claim': (_LENGTH, _POINTER, _LONG, _LONG, _POINTER, _POINTER),
+    'clock_claimed': (None, _POINTER, _POINTER),
+    'clock_give': (_WORD, _POINTER),
+    'clock_note': (_LENGTH, _POINTER, _LONG, _POINTER, _POINTER),
+    'clock_noted': (None, _POINTER, _POINTER),
+    'clock_go_back': (None, _POINTER, _LONG),
 }
 # the calls of each kind, by their names here
 _NAMES = {kind: [name.partition('_')[2] for name in _CALLS if name.startswith(f'{kind}_')] for kind in ('machine', 'session')}
 _loaded: dict[str, ctypes.CDLL] = {}
 
 
-def _library() -> ctypes.CDLL:
+def loaded() -> ctypes.CDLL:
     """The library, loaded once."""
     name = find_library()
     if name not in _loaded:
@@ -122,6 +133,18 @@ def _library() -> ctypes.CDLL:
                           '`make library` makes one, and the variable GBKEEP_LIBRARY names another one') from None
         _loaded[name] = library
     return _loaded[name]
+
+
+def _text(code: int) -> tuple[str, str]:
+    """The line of a code, and what it means."""
+    line, _, means = loaded().gbkeep_fault_text(code).decode('ascii', 'replace').partition(': ')
+    return line, means
+
+
+def _done(code: int) -> None:
+    if code != 0:
+        line, means = _text(code)
+        raise Refused(line, '', means, advice_of(line), code)
 
 
 class _Pointer:
@@ -138,7 +161,7 @@ class _Held(Played):
     """What C holds for us, until `close`."""
 
     def __init__(self) -> None:
-        self._lib, self._lock = _library(), threading.RLock()
+        self._lib, self._lock = loaded(), threading.RLock()
         self._functions = {name: getattr(self._lib, f'gbkeep_{self._kind}_{name}') for name in _NAMES[self._kind]}
         self._pointer: Optional[_Pointer] = None
         self.kept: set[int] = set()
@@ -151,19 +174,9 @@ class _Held(Played):
                 raise ValueError(f'the {self._kind} is closed')
             return self._functions[name](pointer.at, *arguments)
 
-    def _done(self, code: int) -> None:
-        if code != 0:
-            line, means = self._text(code)
-            raise Refused(line, '', means, advice_of(line), code)
-
-    def _text(self, code: int) -> tuple[str, str]:
-        """The line of a code, and what it means."""
-        line, _, means = self._lib.gbkeep_fault_text(code).decode('ascii', 'replace').partition(': ')
-        return line, means
-
     def _make(self, name: str, *arguments: object) -> None:
         at = ctypes.c_void_p()
-        self._done(self._functions[name](*arguments, ctypes.byref(at)))
+        _done(self._functions[name](*arguments, ctypes.byref(at)))
         self._pointer = _Pointer(at.value, self._functions['free'])
 
     @property
@@ -185,11 +198,11 @@ class _Held(Played):
 
     def _picture(self) -> 'Shades':
         shades = ctypes.create_string_buffer(PICTURE_LENGTH)
-        self._done(self._call('picture', shades, PICTURE_LENGTH))
+        _done(self._call('picture', shades, PICTURE_LENGTH))
         return Shades(shades.raw)
 
     def _picture_into(self, room: memoryview) -> None:
-        self._done(self._call('picture', _for_c(room), PICTURE_LENGTH))
+        _done(self._call('picture', _for_c(room), PICTURE_LENGTH))
 
     def _state(self) -> bytes:
         return self._copy(None).raw
@@ -207,15 +220,15 @@ class _Held(Played):
     def _copy(self, into: Optional[ctypes.Array]) -> ctypes.Array:
         """The machine as it is, in place of another one: its state, since the library has no call that copies a machine."""
         into = into or ctypes.create_string_buffer(self.state_length())
-        self._done(self._call('state', into, len(into)))
+        _done(self._call('state', into, len(into)))
         return into
 
     def _take(self, state: object) -> None:
         """From now on the machine of `_copy`, or of a state."""
         code = self._call('restore', state, len(state))
         if code in (DAMAGED_SNAPSHOT, OTHER_CARTRIDGE):
-            raise NoState(*self._text(code), code=code)
-        self._done(code)
+            raise NoState(*_text(code), code=code)
+        _done(code)
 
 
 def _for_c(room: memoryview) -> object:
@@ -244,7 +257,7 @@ class Machine(_Held):
         self._call('seconds', count)
 
     def _power(self) -> None:
-        self._done(self._call('power'))
+        _done(self._call('power'))
 
     def _memory(self, address: int, count: int) -> bytes:
         read = ctypes.create_string_buffer(count)
@@ -257,8 +270,8 @@ class Machine(_Held):
 
 def sectors_needed(rom: Cart) -> int:
     """How many sectors a session of this ROM needs at least."""
-    rom, needed, held = rom_of(rom), ctypes.c_uint32(), _Held()
-    held._done(held._lib.gbkeep_session_sectors(rom, len(rom), ctypes.byref(needed)))
+    rom, needed = rom_of(rom), ctypes.c_uint32()
+    _done(loaded().gbkeep_session_sectors(rom, len(rom), ctypes.byref(needed)))
     return needed.value
 
 
@@ -321,7 +334,7 @@ class Session(_Held):
     def _give(self, kind: str, *given: int) -> None:
         with self._lock:
             self._is_read = False
-            self._done(self._call(kind, *given))
+            _done(self._call(kind, *given))
 
     def _memory(self, address: int, count: int) -> bytes:
         return self._machine().memory(address, count)
@@ -344,13 +357,13 @@ class Session(_Held):
         self._has_to_be_open()
         length = self._call('battery_length')
         file = ctypes.create_string_buffer(max(length, 1))
-        self._done(self._call('battery', file, length))
+        _done(self._call('battery', file, length))
         return file.raw[:length]
 
     def save(self) -> int:
         """Saves what is unsaved: the count of all inputs. It may be told once the calls that are then handed out were made."""
         saved = ctypes.c_uint64()
-        self._done(self._call('save', ctypes.byref(saved)))
+        _done(self._call('save', ctypes.byref(saved)))
         self.saved = saved.value
         return self.saved
 
@@ -379,3 +392,89 @@ class Session(_Held):
                     if put == 0:
                         raise Refused('device failed', 'play')
                     done += put
+
+
+class Line(ctypes.Structure):
+    """A line of SAVE.time: a SAVE with `count` inputs or more was given the time until `until`, in seconds since 1970."""
+    _fields_ = [('count', _LONG), ('until', _LONG)]
+
+
+class Found(ctypes.Structure):
+    """What is found in a text of SAVE.time where a game is opened: how many `lines`; how far the date is `away` from the time until which the clock was
+    given, and so many `seconds`; where SAVE was `played`."""
+    _fields_ = [('lines', _LONG), ('away', _LONG), ('seconds', _LONG), ('played', _LONG)]
+
+
+class _Clock(ctypes.Structure):
+    _fields_ = [('until', _LONG), ('opened', _LONG), ('began', _LONG), ('written', Line), ('claimed', Line), ('is_claimed', _LONG)]
+
+
+# how far away, and where played
+NOTHING, BEHIND, FAR_BEHIND, BEFORE, FAR_BEFORE = range(5)
+HERE, OLDER, ELSEWHERE = range(3)
+MOST_CLOCK_TEXT = 384
+
+
+def clock_lines(text: bytes) -> list[tuple[int, int]]:
+    """The lines of a text of SAVE.time, COUNT and SECONDS each."""
+    line, lines = Line(), []
+    for before in range(look_at_clock(text, 0, 0, 0).lines):
+        _done(loaded().gbkeep_clock_line_of(text, len(text), before, ctypes.byref(line)))
+        lines.append((line.count, line.until))
+    return lines
+
+
+def look_at_clock(text: bytes, count: int, between: int, date: int) -> Found:
+    """What is to be asked and told where a game with so many inputs is opened at this date, in milliseconds since 1970. Up to `between` inputs come between
+    two saves."""
+    found = Found()
+    _done(loaded().gbkeep_clock_look(text, len(text), count, between, date, ctypes.byref(found)))
+    return found
+
+
+class Clock:
+    """The clock of a cartridge, in a game with so many inputs that is opened at this date and this moment, in milliseconds, with this text of SAVE.time.
+    `gives` is what the player says of more than 366 days away.
+
+    `claim` and `note` answer what SAVE.time is to have, or nothing; once it has that, durably, `claimed` and `noted` say so."""
+
+    def __init__(self, text: bytes, count: int, date: int, moment: int, gives: Optional[bool] = None):
+        self._held, self._line, self._text = _Clock(), Line(), ctypes.create_string_buffer(MOST_CLOCK_TEXT)
+        self._clock, self._first = ctypes.byref(self._held), ctypes.byref(self._line)
+        self._lib = loaded()
+        _done(self._lib.gbkeep_clock_open(text, len(text), count, date, moment, {None: 0, True: 1, False: 2}[gives], self._clock))
+
+    @property
+    def until(self) -> int:
+        """Until when it was given, in seconds since 1970."""
+        return self._held.until
+
+    def text(self) -> bytes:
+        """What SAVE.time is to have as the game is opened."""
+        return self._text[:self._lib.gbkeep_clock_text(ctypes.byref(self._held.written), self._text)]
+
+    def due(self, moment: int) -> int:
+        """How many seconds are due."""
+        return self._lib.gbkeep_clock_due(self._clock, moment)
+
+    def claim(self, count: int, moment: int) -> bytes:
+        """For the seconds that are due to a game of so many inputs."""
+        return self._text[:self._lib.gbkeep_clock_claim(self._clock, count, moment, self._first, self._text)]
+
+    def claimed(self) -> None:
+        self._lib.gbkeep_clock_claimed(self._clock, self._first)
+
+    def give(self) -> int:
+        """How many seconds the next input gives: those that were claimed."""
+        return self._lib.gbkeep_clock_give(self._clock)
+
+    def note(self, saved: int) -> bytes:
+        """For so many inputs that are saved, where no second was due."""
+        return self._text[:self._lib.gbkeep_clock_note(self._clock, saved, self._first, self._text)]
+
+    def noted(self) -> None:
+        self._lib.gbkeep_clock_noted(self._clock, self._first)
+
+    def go_back(self, until: int) -> None:
+        """The game goes on with the machine of a state whose clock had been given until then."""
+        self._lib.gbkeep_clock_go_back(self._clock, until)

@@ -22,4 +22,5 @@ export const FAULTS = [
   ["output failed", "a report could not be written", "make room on the disk, or read the pipe to its end"],
   ["no battery", "the cartridge's type names no battery, so the game keeps nothing", "begin it by new"],
   ["battery length", "the battery file is not as long as this cartridge asks for", "use the file of this game"],
+  ["no time", "the bytes are no text of SAVE.time", "open the page anew: what was saved stays saved"],
 ];
