@@ -30,8 +30,8 @@ help:
 	@echo '  make demo       plays a minute of a small game: bin/demo.gbkeep, bin/demo.png'
 	@echo '  make play       plays a cartridge in a window (CART=examples/demo/demo.gb'
 	@echo '                  SAVE=NAME.gbkeep; without SAVE, in ~/.local/share/gbkeep)'
-	@echo '  make install    puts program, window, tools, man pages and completions, and'
-	@echo '                  what is built of library and core, below PREFIX (~/.local);'
+	@echo '  make install    puts program, library, window, tools, man pages, completions'
+	@echo '                  and, where it is built, the core below PREFIX (~/.local);'
 	@echo '                  LIBDIR=lib64: another folder for libraries'
 	@echo '  make uninstall  removes what make install puts there'
 	@echo '  make run        tries the program on a small ROM before any proof: compiles it'
@@ -130,7 +130,7 @@ bin/arm64/gbkeep: $(SOURCES) $(BY_ARM64) library/heap.c | $(LOOK)
 
 build: $(OUT)/gbkeep
 
-install: $(OUT)/gbkeep
+install: $(OUT)/gbkeep $(OUT)/libgbkeep.so
 	@python3 -B packaging/installed.py --destdir "$(DESTDIR)" --libdir "$(LIBDIR)" --built $(OUT) "$(PREFIX)"
 
 uninstall:
@@ -163,11 +163,11 @@ compare: bin/gbkeep
 hostile: bin/gbkeep
 	python3 -B scripts/second_storage/hostile.py bin/gbkeep $(SECONDS)
 
-fuzz: bin/gbkeep
+fuzz: bin/gbkeep bin/libgbkeep.so
 	python3 -B scripts/second_storage/hostile.py bin/gbkeep fuzz $(SECONDS)
 	$(PIL_PYTHON) -B scripts/tool_fuzz.py bin/gbkeep 60
 
-faults: bin/gbkeep
+faults: bin/gbkeep bin/libgbkeep.so
 	python3 -B scripts/tool_faults.py bin/gbkeep
 
 strace: bin/gbkeep
@@ -186,7 +186,7 @@ PYTHON ?= $(shell python3 -c 'import gi; gi.require_version("Adw", "1")' > /dev/
 CART ?= examples/demo/demo.gb
 
 # a game that is in bin goes on there
-play: bin/gbkeep
+play: bin/gbkeep bin/libgbkeep.so
 	@save="$(SAVE)" older="bin/play-$$(basename "$(CART)" .gb).sav"; if [ -z "$$save" ] && [ -e "$$older" ]; then save=$$older; fi; \
 	$(PYTHON) -B -m gbkeep.window "$(CART)" $${save:+"$$save"}
 
@@ -215,7 +215,7 @@ web:
 WEB_PYTHON ?= $(shell python3 -c 'import selenium' > /dev/null 2>&1 && echo python3 || echo /usr/bin/python3)
 
 # where the module of web/page is of other sources, a page with one of these is tried, too
-test-web: bin/gbkeep
+test-web: bin/gbkeep bin/libgbkeep.so
 	CC="$(CC)" python3 -B web/test_heap.py
 	python3 -B web/test_module.py
 	if python3 -B scripts/doctor.py --try 'the scripts of the page, by eslint' eslint; then \
@@ -248,7 +248,7 @@ test-cards: bin/gbkeep
 test-slow-disk: bin/gbkeep bin/gbkeep_libretro.so
 	CC="$(CC)" $(PYTHON) -B python/gbkeep_tests/test_slow_disk.py bin/gbkeep
 
-test-window: bin/gbkeep
+test-window: bin/gbkeep bin/libgbkeep.so
 	$(PYTHON) -B python/gbkeep_tests/test_window.py bin/gbkeep
 
 test-libretro: bin/gbkeep bin/gbkeep_libretro.so
@@ -294,9 +294,6 @@ test:
 	RT_JOBS=$$(python3 -B -c 'from scripts.build import jobs; print(jobs())') python3 -B scripts/gate_cost.py $(RT) ci
 	python3 -B scripts/program_tests/run.py $(PROGRAM)/out/gbkeep_program
 	$(PIL_PYTHON) -B scripts/front_door.py $(PROGRAM)/out/gbkeep_program
-	$(PIL_PYTHON) -B python/gbkeep_tests/test_players.py $(PROGRAM)/out/gbkeep_program
-	python3 -B python/gbkeep_tests/test_slots.py $(PROGRAM)/out/gbkeep_program
-	python3 -B python/gbkeep_tests/test_shown_game.py $(PROGRAM)/out/gbkeep_program
 	python3 -B python/gbkeep_tests/test_desktop_model.py
 	$(NUMPY_PYTHON) -B python/gbkeep_tests/test_package.py
 	$(PIL_PYTHON) -B python/gbkeep_tests/test_pictures.py
@@ -305,9 +302,14 @@ test:
 	python3 -B web/test_module.py
 	if python3 -B scripts/page.py is-current && python3 -B scripts/doctor.py --try 'the module of the page, in Node' node; then \
 	python3 -B web/test_engines.py $(PROGRAM)/out/gbkeep_program node; fi
-	if python3 -B scripts/doctor.py --try 'the library for C' cc ar; then RT=$(RT) CC="$(CC)" python3 -B scripts/library.py gate && \
+	if python3 -B scripts/doctor.py --try 'the library for C, and the window over it' cc ar; then RT=$(RT) CC="$(CC)" python3 -B scripts/library.py gate && \
 	CC="$(CC)" python3 -B library/test_library.py $(PROGRAM)/out/gbkeep_program && \
-	$(NUMPY_PYTHON) -B python/gbkeep_tests/test_env.py; fi
+	$(NUMPY_PYTHON) -B python/gbkeep_tests/test_env.py && \
+	$(PIL_PYTHON) -B python/gbkeep_tests/test_players.py $(PROGRAM)/out/gbkeep_program && \
+	python3 -B python/gbkeep_tests/test_slots.py $(PROGRAM)/out/gbkeep_program && \
+	python3 -B python/gbkeep_tests/test_shown_game.py $(PROGRAM)/out/gbkeep_program && \
+	$(PIL_PYTHON) -B scripts/tool_fuzz.py $(PROGRAM)/out/gbkeep_program 5 1 && \
+	python3 -B scripts/tool_faults.py $(PROGRAM)/out/gbkeep_program 40 1; fi
 	if python3 -B scripts/doctor.py --try 'the libretro core' cc ar libretro.h; then CC="$(CC)" LIBRETRO="$(LIBRETRO)" python3 -B scripts/libretro.py && \
 	python3 -B players/libretro/test_libretro.py $(PROGRAM)/out/gbkeep_program bin/gbkeep_libretro.so && \
 	if python3 -B scripts/doctor.py --try 'the libretro core, garbage' sanitizers; then \
@@ -327,8 +329,6 @@ test:
 	$(PIL_PYTHON) -B python/gbkeep_tests/test_run_tests.py $(PROGRAM)/out/gbkeep_program
 	$(PIL_PYTHON) -B python/gbkeep_tests/test_debug.py $(PROGRAM)/out/gbkeep_program
 	$(PIL_PYTHON) -B python/gbkeep_tests/test_hostile_inputs.py $(PROGRAM)/out/gbkeep_program
-	$(PIL_PYTHON) -B scripts/tool_fuzz.py $(PROGRAM)/out/gbkeep_program 5 1
-	python3 -B scripts/tool_faults.py $(PROGRAM)/out/gbkeep_program 40 1
 	python3 -B scripts/second_storage/refused_memory.py $(PROGRAM)/out/gbkeep_program crates/refused_memory/out/refused_memory
 	RT=$(RT) python3 -B packaging/dist.py passed $(PROGRAM)/out/gbkeep_program
 	@python3 -B scripts/not_tried.py ends

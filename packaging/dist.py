@@ -230,7 +230,7 @@ class Release:
                      ' The package gbkeep plays a game by the program gbkeep or by its library,\n tries out a machine whose states are kept and taken back, and reads and writes\n'
                      ' scripts, movies and pictures. The tools of gbkeep-window and gbkeep-testers\n are its modules.\n', scripts=compiled('python3-gbkeep'))
         needed, named = asked_for(installed.WINDOW)
-        self.package('gbkeep-window', f'Section: otherosfs\n{every}{relation("Depends", own, *needed, "python3")}'
+        self.package('gbkeep-window', f'Section: otherosfs\n{every}{relation("Depends", own, f"libgbkeep0 (= {VERSION})", *needed, "python3")}'
                      f'{relation("Recommends", "desktop-file-utils", *named, "shared-mime-info")}'
                      "Description: window and player's tools for gbkeep\n"
                      ' gbkeep-window plays games of gbkeep in a window. gbkeep-script reads scripts\n that are easier to write, gbkeep-rest goes on with a'

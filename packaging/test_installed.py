@@ -459,7 +459,7 @@ def test_packages(folder: Path) -> None:
         for module, package in re.findall(r"needs (\w+) \(Debian's package ([\w-]+)\)", helps[name]):
             expect(f'{owner} has what {name} needs', package in fields[owner]['Depends'].split(', '), True)
     depends, recommends = (fields['gbkeep-window'][name].split(', ') for name in ('Depends', 'Recommends'))
-    expect('the window', {'python3-gi', 'gir1.2-gtk-4.0', 'gir1.2-adw-1'} <= set(depends), True)
+    expect('the window', {'python3-gi', 'gir1.2-gtk-4.0', 'gir1.2-adw-1', f'libgbkeep0 (= {version})'} <= set(depends), True)
     expect('its gamepads', 'gir1.2-manette-0.2' in recommends, True)
     expect('testers need no PIL', 'python3-pil' in fields['gbkeep-testers']['Depends'], False)
     names_pil = any('python3-pil' in helps[name] for name in installed.OF_TESTERS)

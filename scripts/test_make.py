@@ -265,7 +265,7 @@ esac
     told = [line for line in out.splitlines() if line.startswith('not tried: ')]
     cc = doctor.told('cc')
     expect('each is said where it is left out, and at the end', sorted(told), sorted(2 * list(dict.fromkeys(told))))
-    for line in ('all Python, by pyflakes3: pyflakes3 is missing: install pyflakes3', 'the package, arrays: numpy is missing', f'the library for C: {cc}',
+    for line in ('all Python, by pyflakes3: pyflakes3 is missing: install pyflakes3', 'the package, arrays: numpy is missing', f'the library for C, and the window over it: {cc}',
                  'the libretro core: libretro.h is missing: install retroarch-dev (LIBRETRO=FOLDER names where it is)'):
         expect(line, f'not tried: {line}' in told, True)
     expect('they are the last lines', out.splitlines()[-len(set(told)):], list(dict.fromkeys(told)))

@@ -180,7 +180,7 @@ module.start()
 # what the window does with its files, as a tool
 DOES = '''import os, sys, types
 sys.path = [one for one in sys.path if one]
-from gbkeep import slots, timed_game, tools
+from gbkeep import library, slots, timed_game, tools
 from gbkeep.desktop import files, preferences
 CART, SAVE, PROGRAM = sys.argv[1:]
 said = []
@@ -211,6 +211,8 @@ def main(words):
     except (slots.NotReplaced, timed_game.WrongTime) as error:
         raise tools.Failed(str(error)) from None
 sys.argv[0] = 'gbkeep-window'
+# as the window does before it has a file
+library.loaded()
 os.access('/faults begin', 0)
 tools.run_tool(main)
 '''
@@ -253,8 +255,8 @@ def is_movie(data: bytes) -> bool:
 
 def is_time(data: bytes) -> bool:
     try:
-        return len(lines_of(data.decode())) > 0
-    except (WrongTime, UnicodeDecodeError):
+        return len(lines_of(data)) > 0
+    except WrongTime:
         return False
 
 

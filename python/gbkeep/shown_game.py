@@ -52,11 +52,11 @@ class ShownGame:
     """A game of the window's. Its calls are those of TimedGame; `begin_save` waits for nothing."""
 
     def __init__(self, game: TimedGame, player: Player):
-        self.game, self.player, self.count, self.given_until = game, player, game.count, game.given_until
+        self.game, self.player, self.count = game, player, game.count
         self.header, self.notice, self.command = game.header, game.notice, game.command
         # what the thread has to do; what became of the claim of seconds that it was last given
         self.work: queue.SimpleQueue = queue.SimpleQueue()
-        self.passed, self.is_claimed = 0, None
+        self.is_claimed: Optional[bool] = None
         self.is_saving, self.since = False, 0.0
         self.failed: Optional[BaseException] = None
         self.thread = threading.Thread(target=self._work, daemon=True)
@@ -65,6 +65,10 @@ class ShownGame:
     @property
     def saved(self) -> int:
         return self.game.saved
+
+    @property
+    def given_until(self) -> int:
+        return self.game.given_until
 
     @property
     def trouble(self) -> Optional[str]:
@@ -107,7 +111,7 @@ class ShownGame:
         self._give('restore', state)
         if has_clock:
             # the thread claims nothing of itself, and both inputs are saved at once
-            self.game.given_until = self.given_until = given_until
+            self.game.clock.go_back(given_until)
             self.save_all()
 
     def begin_save(self) -> None:
@@ -121,8 +125,7 @@ class ShownGame:
             return
         self.is_saving, self.since = True, time.monotonic()
         if passed > 0:
-            self.passed, self.is_claimed = passed, None
-            self.work.put(('claim', self.count + 1, passed))
+            self.work.put(('claim', self.count))
         else:
             self.work.put(('save', True))
 
@@ -130,11 +133,11 @@ class ShownGame:
         """Gives the clock the seconds that have passed, saves, and answers the count of inputs."""
         self._settle()
         # the thread has nothing to do now
-        passed = self.game.due()
-        if passed > 0 and self.game.claim(self.count + 1, passed):
-            self._seconds(passed)
+        is_due = self.game.due() > 0
+        if is_due and self.game.claim(self.count):
+            self._seconds()
         self.is_saving, self.since = True, time.monotonic()
-        self.work.put(('save', passed <= 0))
+        self.work.put(('save', not is_due))
         self._settle()
         return self.saved
 
@@ -147,9 +150,10 @@ class ShownGame:
             self.player.close()
         self.game.close()
 
-    def _seconds(self, passed: int) -> None:
+    def _seconds(self) -> None:
+        """Gives the seconds that were claimed."""
+        passed = self.game.clock.give()
         self.player.seconds(passed)
-        self.given_until += passed
         self._give('seconds', passed)
 
     def _give(self, *order: object) -> None:
@@ -175,7 +179,7 @@ class ShownGame:
         if self.is_claimed is not None:
             is_claimed, self.is_claimed = self.is_claimed, None
             if is_claimed:
-                self._seconds(self.passed)
+                self._seconds()
             self.work.put(('save', False))
 
     def _work(self) -> None:

@@ -42,6 +42,7 @@ from typing import NoReturn
 from .desktop import preferences
 from .desktop.playing import Asked
 from .game import find_program, starting
+from .library import loaded
 from .machines import Refused
 from .palettes import PALETTES
 from .tools import Words, count_word, name_of_tool, say
@@ -86,7 +87,7 @@ def main() -> int:
         return 1
     try:
         with starting(asked.gbkeep):
-            pass
+            loaded()
     except Refused as refused:
         say(refused.told())
         return 1

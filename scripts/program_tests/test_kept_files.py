@@ -5,7 +5,6 @@ not know its recording."""
 import tarfile
 from pathlib import Path
 
-from gbkeep.timed_game import SaveTime
 from test_files import battery_cartridge, mark_of
 from test_recordings import cartridge
 
@@ -40,7 +39,6 @@ def test_kept_games_are_taken_and_go_on(room):
         if name != 'run.gbkeep':
             room.done(f'play {cart} {name} more.script', f'resumed {count}\nsaved {count + 10}\n')
             room.done(f'frame {cart} {name} {name}.pgm', f'resumed {count + 10}\n')
-    room.expect('SAVE.time', SaveTime(room.folder / 'clock.gbkeep').read(), [(3366, 1_795_000_000), (3371, 1_795_000_070)])
     room.done('export kept.gb kept.gbkeep kept.sav', 'exported 75\n')
     room.expect('the RAM that the game began with', room.read('kept.sav'), bytes(range(256)) * 128)
 
