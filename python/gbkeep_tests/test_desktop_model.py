@@ -569,11 +569,10 @@ def test_pixels():
     for palette in range(4):
         for scale in (1, 3):
             drawn = Painter(palette, scale).pixels(shades)
-            expect('their number', len(drawn), 4 * 160 * 144 * scale * scale)
+            expect('their number', len(drawn), 3 * 160 * 144 * scale * scale)
             for x, y in ((0, 0), (159 * scale, 143 * scale), (7 * scale + scale - 1, 5 * scale + scale - 1)):
-                at = 4 * (y * 160 * scale + x)
-                red, green, blue = PALETTES[palette][shades[y // scale * 160 + x // scale]]
-                expect('a pixel', tuple(drawn[at:at + 4]), (blue, green, red, 255))
+                at = 3 * (y * 160 * scale + x)
+                expect('a pixel', tuple(drawn[at:at + 3]), PALETTES[palette][shades[y // scale * 160 + x // scale]])
     expect('sizes', [scale_of(*size, is_whole) for size, is_whole in (((480, 432), True), ((1280, 960), True), ((1280, 960), False), ((380, 300), True), ((160, 144), True))],
            [(3, 3.0), (6, 6.0), (7, 960 / 144), (3, 300 / 144), (1, 1.0)])
 

@@ -97,8 +97,8 @@ def test_play_and_kill(room):
     for way in ('Up', 'Right', 'Down', 'Left', 'Down', 'Right', 'Up'):
         player.hold(way, 1.2)
     passed = time.monotonic() - since
-    rate, load = (player.frame_count() - frames) / passed, (player.processor_seconds() - spent) / passed
-    print(f'begun in {started:.1f} s; {rate:.1f} frames a second, {100 * load:.0f} % of a processor', flush=True)
+    rate, load = (player.frame_count() - frames) / passed, [100 * (now - before) / passed for now, before in zip(player.processor_seconds(), spent)]
+    print(f'begun in {started:.1f} s; {rate:.1f} frames a second, {load[0]:.0f} % of a processor, and {load[1]:.0f} % by its programs', flush=True)
     # the one who is played stands at the right wall, and then at the left one
     seen = []
     for way in ('Right', 'Left'):

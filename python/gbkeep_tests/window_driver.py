@@ -191,17 +191,17 @@ class Player:
         found = next((re.search(r'frame ([\d,]+)', text) for text in self.texts() if 'frame ' in text), None)
         return int(found[1].replace(',', '')) if found else -1
 
-    def processor_seconds(self) -> float:
-        """Of the window and the programs that it started."""
-        group, ticks = os.getpgid(self.process.pid), 0
+    def processor_seconds(self) -> list[float]:
+        """Of the window, and of the programs that it started."""
+        group, spent = os.getpgid(self.process.pid), [0.0, 0.0]
         for stat in Path('/proc').glob('[0-9]*/stat'):
             try:
                 fields = stat.read_text().rpartition(')')[2].split()
             except OSError:
                 continue
             if int(fields[2]) == group:
-                ticks += int(fields[11]) + int(fields[12])
-        return ticks / os.sysconf('SC_CLK_TCK')
+                spent[int(stat.parent.name) != self.process.pid] += (int(fields[11]) + int(fields[12])) / os.sysconf('SC_CLK_TCK')
+        return spent
 
     def kill(self) -> None:
         os.killpg(self.process.pid, signal.SIGKILL)

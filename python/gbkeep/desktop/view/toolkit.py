@@ -28,7 +28,7 @@ def texture_of(shades: bytes, palette: int, scale: int) -> Gdk.Texture:
             _painters.clear()
         painter = _painters[palette, scale] = Painter(palette, scale)
     width, height = WIDTH * scale, HEIGHT * scale
-    return Gdk.MemoryTexture.new(width, height, Gdk.MemoryFormat.B8G8R8A8_PREMULTIPLIED, GLib.Bytes.new(painter.pixels(shades)), 4 * width)
+    return Gdk.MemoryTexture.new(width, height, Gdk.MemoryFormat.R8G8B8, GLib.Bytes.new(painter.pixels(shades)), 3 * width)
 
 
 class Thumb(Gtk.Widget):
