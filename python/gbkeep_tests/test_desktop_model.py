@@ -17,7 +17,8 @@ import unittest
 import zipfile
 from pathlib import Path
 
-from gbkeep.desktop import actions, files, intake, preferences, refusals, shelf, words
+from gbkeep import going_back
+from gbkeep.desktop import actions, files, intake, playing, preferences, refusals, shelf, words
 from gbkeep.desktop.mark import Mark
 from gbkeep.desktop.pixels import Painter, scale_of
 from gbkeep.desktop.playing import Asked, Play
@@ -32,6 +33,20 @@ from gbkeep_tests.support import CART, TOP, expect, refusal
 
 PICTURE = bytes(160 * 144)
 SAVE_BYTES = b'GBKPROOT' + bytes(12) + bytes.fromhex('ab' * 32) + bytes(1024)
+
+
+class Clock:
+    """A clock of the plays here: what sleeps is awake at once, so that no test depends on how fast the computer is."""
+    now = 1_000.0
+
+    def monotonic(self):
+        return self.now
+
+    def sleep(self, seconds):
+        self.now += seconds
+
+
+CLOCK = playing.time = going_back.time = Clock()
 
 
 class Header:
@@ -276,18 +291,22 @@ def test_dialogs_hold_the_game():
 
 def test_fast():
     """Fast plays as many frames as are chosen; with none chosen, as many as it can, and shows no more pictures than before."""
-    rates = {}
+    counts = {}
     for factor in (2, 0):
         face = Face()
         play, game = a_play(face)
         play.chosen.fast = factor
         play.steering.press('Stay fast', 'g')
-        play.speed.since -= 0.5
-        began = time.monotonic()
-        game.at_frame = lambda count: time.monotonic() > began + 0.5 and play.steering.close()
+        play.shown_time, end = CLOCK.now, CLOCK.now + 10
+
+        def at_frame(count):
+            CLOCK.sleep(1 / 1024)
+            if CLOCK.now >= end:
+                play.steering.close()
+        game.at_frame = at_frame
         play.go(game, types.SimpleNamespace(note=lambda count: None))
-        rates[factor] = game.frames / (time.monotonic() - began), face.shown / (time.monotonic() - began)
-    expect('twice as fast, and faster', (80 < rates[2][0] < 130, rates[0][0] > 200, rates[0][1] < 70), (True, True, True))
+        counts[factor] = game.frames, face.shown
+    expect('ten seconds', (counts[2][0] in range(1_190, 1_200), counts[0][0], all(550 < shown < 600 for _, shown in counts.values())), (True, 10_240, True))
 
 
 def test_steering():

@@ -12,12 +12,12 @@ import signal
 import stat
 import subprocess
 import tarfile
-import time
 import types
+import unittest.mock
 from pathlib import Path
 
 from gbkeep_tests import support
-from gbkeep_tests.support import CART, DAY, TOP, clock_cart, clock_shown, expect, needs_root, seconds_shown, wrong
+from gbkeep_tests.support import CART, DAY, TOP, clock_cart, clock_shown, expect, needs_root, seconds_shown
 from gbkeep import slots as slots_module
 from gbkeep.game import A, LEFT, RIGHT, Game, Refused, begin, header_of, run
 from gbkeep.input_files import WrongInput
@@ -154,12 +154,7 @@ def as_user(room, call):
 def until_free(save):
     """Waits until no program holds SAVE."""
     with open(save, 'rb') as file:
-        for _ in range(2000):
-            with contextlib.suppress(BlockingIOError):
-                fcntl.flock(file, fcntl.LOCK_EX | fcntl.LOCK_NB)
-                return
-            time.sleep(0.01)
-    wrong('a program goes on after its window')
+        support.until('a program ends after its window', lambda: support.refusal(lambda: fcntl.flock(file, fcntl.LOCK_EX | fcntl.LOCK_NB), BlockingIOError) is None)
 
 
 # ---- slots
@@ -1014,18 +1009,18 @@ def test_batteries(room):
     cart, battery = room.clock_cart, room.path('battery')
     size = int(run(room.program, 'info', str(cart)).split('\nram ')[1].split()[0])
     registers = b''.join(value.to_bytes(4, 'little') for value in (7, 0, 0, 0, 0) * 2)
+    now = 1_780_000_000
     for name, behind, agrees, asked, seconds in (
             ('yes', 8, True, 1, 5 * DAY + 7), ('no', 8, False, 1, 7), ('short', 4, True, 1, 5 * DAY + 7), ('zero', 0, True, 0, 7),
             ('future', -1, True, 0, 7), ('none', None, True, 0, 0)):
-        written = {0: bytes(8), -1: (1 << 62).to_bytes(8, 'little')}.get(behind) or (int(time.time()) - 5 * DAY).to_bytes(behind or 8, 'little')
+        written = {0: bytes(8), -1: (1 << 62).to_bytes(8, 'little')}.get(behind) or (now - 5 * DAY).to_bytes(behind or 8, 'little')
         battery.write_bytes(bytes(size) + (registers + written if behind is not None else b''))
         save, window = room.path(f'{name}.gbkeep'), Window(agrees)
-        agreed = take_battery(window, str(battery), str(cart), str(save), room.program)
-        with TimedGame(cart, save, room.program, ask=lambda *_: agreed) as game:
-            shown = seconds_shown(game)
-            expect(f'{name}: asked', (len(window.asked), game.notice, seconds <= shown < seconds + 60), (asked, None, True))
-        with TimedGame(cart, save, room.program) as game:
-            expect(f'{name}: given once', seconds <= seconds_shown(game) < seconds + 60, True)
+        with unittest.mock.patch('time.time', lambda: now):
+            agreed = take_battery(window, str(battery), str(cart), str(save), room.program)
+        for when in ('asked', 'given once'):
+            with TimedGame(cart, save, room.program, lambda: now, elapsed=lambda: 0, ask=lambda *_: agreed) as game:
+                expect(f'{name}: {when}', (len(window.asked), game.notice, seconds_shown(game)), (asked, None, seconds))
         expect('exists already', 'exists already' in refusal_told(lambda: take_battery(window, str(battery), str(cart), str(save), room.program)), True)
     wrong = room.path('wrong.gbkeep')
     for path in ('/dev/zero', room.folder, room.path('none')):

@@ -1,4 +1,5 @@
 """Drives the window on a display of its own: by its accessibility tree, by keys, and by looking at pictures of it."""
+import contextlib
 import os
 import re
 import select
@@ -158,6 +159,14 @@ class Player:
     def keys(self, kind: str, *names: str) -> None:
         for name in names:
             self.screen.do(kind, name)
+
+    def pressed(self, name: str, what: Callable, or_else: str):
+        """Presses a key until that is so: one that comes while a question goes is not for the game."""
+        for _ in range(10):
+            self.keys('key', name)
+            with contextlib.suppress(AssertionError):
+                return self.wait(what, or_else, 5)
+        wrong(or_else)
 
     def hold(self, name: str, seconds: float) -> None:
         self.keys('keydown', name)
