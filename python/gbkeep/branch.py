@@ -3,7 +3,8 @@
 usage: gbkeep-branch CART RECORDING COUNT NEW_SAVE NEW_RECORDING
 
 NEW_SAVE and NEW_RECORDING are made; neither may be there, nor NEW_SAVE.recorded. NEW_RECORDING has as many sectors as RECORDING, which is
-only read. The new game is played by `gbkeep record`, and goes on by it."""
+only read. The new game is played by `gbkeep record`, and goes on by it. NEW_RECORDING.notes has the notes of RECORDING, with the marks up to there, and a
+rerecord more (see gbkeep-movie)."""
 import contextlib
 import os
 from collections.abc import Iterable, Iterator
@@ -11,6 +12,7 @@ from typing import NoReturn, Optional
 
 from .game import Game, begin, begin_recording
 from .input_files import MOST_SECTORS, SECTOR, PathLike, WrongInput, is_there, number, printable, read_bytes
+from .notes import keep_notes, notes_file, notes_of
 from .script import Wrong, inputs_of, is_recording, recorded_moves
 from .tools import WrongWords, operands, run_tool
 
@@ -64,6 +66,8 @@ def branch(cart: PathLike, recording: PathLike, count: int, new_save: PathLike, 
     mark, made, may_be_marked = mark_of(new_save), Made(), False
     # the game that is begun would take it away
     must_be_free(mark)
+    must_be_free(notes_file(new_recording))
+    notes = notes_of(recording).up_to(count)
     # whether there are so many, before anything is made
     for _ in first_of(recorded_moves(cart, recording, program), count):
         pass
@@ -78,7 +82,9 @@ def branch(cart: PathLike, recording: PathLike, count: int, new_save: PathLike, 
         with Game(cart, new_save, program, recording=new_recording) as game:
             for move in first_of(recorded_moves(cart, recording, program), count):
                 getattr(game, move[0])(*move[1:])
-            return game.save()
+            saved = game.save()
+        keep_notes(new_recording, notes)
+        return saved
     except BaseException:
         # they were made for this game alone
         if may_be_marked and is_mark(mark, new_recording):

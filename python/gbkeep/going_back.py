@@ -9,7 +9,7 @@ from collections import deque
 from typing import Optional, Protocol
 
 from .desktop import words
-from .game import HEIGHT, WIDTH
+from .game import HEIGHT, MOST_STATE, WIDTH
 from .shown_game import Played
 
 # a minute, of which a moment is kept each few frames; so many are shown in a second of going back
@@ -45,7 +45,7 @@ class Moment:
 
     def parts(self) -> tuple[bytes, bytes]:
         """The state and the picture."""
-        data = zlib.decompress(self.packed)
+        data = zlib.decompressobj().decompress(self.packed, MOST_STATE)
         return data[:-WIDTH * HEIGHT], data[-WIDTH * HEIGHT:]
 
 

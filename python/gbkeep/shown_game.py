@@ -9,6 +9,7 @@ import shutil
 import tempfile
 import threading
 import time
+from array import array
 from typing import Optional, Union
 
 from .game import DebugMachine, Picture, Refused, ignore_signals
@@ -21,6 +22,8 @@ FEW_SECONDS = 5
 SLOW_SECONDS = 5
 # the calls that give a game an input
 INPUTS = ('frame', 'seconds', 'power', 'restore')
+# of the inputs of a recorded game each is a number: the buttons of a frame, or so much and the seconds of the clock
+SECONDS = 256
 # inputs that wait for a save: so many, and the game waits, too
 MOST_WAITING = 20_000
 
@@ -54,6 +57,8 @@ class ShownGame:
     def __init__(self, game: TimedGame, player: Player):
         self.game, self.player, self.count = game, player, game.count
         self.header, self.notice, self.command = game.header, game.notice, game.command
+        # those of a recorded game since it was opened
+        self.inputs = array('Q')
         # what the thread has to do; what became of the claim of seconds that it was last given
         self.work: queue.SimpleQueue = queue.SimpleQueue()
         self.is_claimed: Optional[bool] = None
@@ -156,10 +161,12 @@ class ShownGame:
         self.player.seconds(passed)
         self._give('seconds', passed)
 
-    def _give(self, *order: object) -> None:
+    def _give(self, *order) -> None:
         """Has the thread give the game an input, as a call."""
         self.work.put(order)
         self.count += 1
+        if self.command == 'record':
+            self.inputs.append(int(order[1]) + (0 if order[0] == 'frame' else SECONDS))
 
     def _settle(self) -> None:
         """Waits until nothing is left to do."""

@@ -551,7 +551,7 @@ def test_screenshots(folder):
 def test_the_timeline(folder):
     """A moment each ten seconds, of the last hour, which is there again for the next window; what is damaged is passed over."""
     save, digest = str(folder / 'a.gbkeep'), bytes(32)
-    line, game = Timeline(save, digest, False), Game()
+    line, game = Timeline(save, digest), Game()
     line.read(0)
     for number in range(3):
         line.time = float('-inf')
@@ -567,7 +567,7 @@ def test_the_timeline(folder):
     for cut in (data[:-5], data[:60], b'', b'mine'):
         line.path.write_bytes(cut)
         expect('what is whole', len(Timeline_read(save, digest, 9_999)), 2 if cut == data[:-5] else 0)
-    line.written = 0
+    line.unwritten = list(line.moments)
     line.write()
     expect('a file of somebody else', line.path.read_bytes(), b'mine')
     for at in range(MOST_MOMENTS + 40):
@@ -576,7 +576,7 @@ def test_the_timeline(folder):
 
 
 def Timeline_read(save, digest, count):
-    line = Timeline(save, digest, False)
+    line = Timeline(save, digest)
     line.read(count)
     return list(line.moments)
 

@@ -6,6 +6,7 @@ usage: test_slots.py GBKEEP [TEST..]
 Time is told by a clock that is not real. The status is 1 where a test fails."""
 import contextlib
 import fcntl
+import hashlib
 import os
 import shutil
 import signal
@@ -14,20 +15,25 @@ import subprocess
 import tarfile
 import types
 import unittest.mock
+import zlib
 from pathlib import Path
 
 from gbkeep_tests import support
 from gbkeep_tests.support import CART, DAY, TOP, clock_cart, clock_shown, expect, needs_root, seconds_shown
 from gbkeep import slots as slots_module
-from gbkeep.game import A, LEFT, RIGHT, Game, Refused, begin, header_of, run
+from gbkeep.game import A, LEFT, RIGHT, DebugMachine, Game, Refused, begin, header_of, run
 from gbkeep.input_files import WrongInput
 from gbkeep.new_files import Unsafe, new_file
+from gbkeep.script import own_move
+from gbkeep.shown_game import SECONDS, shown
 from gbkeep.slots import NotReplaced, Slots
 from gbkeep.timed_game import INPUTS_BETWEEN, SaveTime, TimedGame, WrongTime, lines_of, merged, span
 from gbkeep.desktop.files import (battery_name, keep_state, lasting_name, leave_picture, load_state, put_aside, recording_of, take_battery, take_out,
                                   with_recording)
 from gbkeep.desktop.preferences import Preferences
+from gbkeep.desktop.recorded import RecordedTimeline, Seeker
 from gbkeep.desktop.shelf import own_save
+from gbkeep.desktop.timeline import FRAMES_BETWEEN, Stamped
 
 
 
@@ -1002,6 +1008,97 @@ def test_recorded(room):
     os.mkfifo(mark)
     expect('a FIFO', 'is not there' in str(refusal(lambda: with_recording(Window(True), str(save)))), True)
     expect('a game that nobody records', with_recording(Window(), str(room.path('other.gbkeep'))), (None, True))
+
+
+def test_the_timeline_of_a_recording(room):
+    """All of a recorded game can be looked at: its moments are there again, those of an edited recording are not, and without them it is played anew."""
+    cart, save, recording, times = room.clock_cart, room.path('run.gbkeep'), room.path('run.rec'), Times()
+    digest, cache = hashlib.sha256(cart.read_bytes()).digest(), Path(f'{recording}.timeline')
+
+    def opened(**more):
+        game = shown(times.open(room, save, recording=recording), cart, save, room.program)
+        timeline = RecordedTimeline(str(cart), digest, str(recording), room.program, game)
+        timeline.is_read.wait()
+        return game, timeline
+    game, timeline = opened()
+    for number in range(2 * FRAMES_BETWEEN + 30):
+        game.frame(number // 7 & 255)
+        timeline.time = float('-inf')
+        timeline.note(game, game.picture().shades)
+        if number % 500 == 400:
+            times.passes(3)
+            game.save_all()
+    places, frames = (0, 450, FRAMES_BETWEEN + 5, timeline.count), timeline.frames
+    support.until('two moments', lambda: cache.exists() and len(timeline.held()) == 2)
+    expect('by their inputs', [one.count for one in timeline.moments], [FRAMES_BETWEEN + 1, 2 * FRAMES_BETWEEN + 2])
+
+    def sought(line):
+        """The pictures of the places, and how many moments were gone on from or kept on the way."""
+        found = {}
+        seeker = Seeker(line, found.__setitem__)
+        seeker.start()
+        for place in places:
+            seeker.seek(place)
+            support.until(f'place {place}', lambda: place in found)
+        seeker.end()
+        seeker.join()
+        return found
+    wanted, machine = {}, DebugMachine(cart, program=room.program)
+    with machine:
+        for at, one in enumerate([*timeline.part(0, timeline.count), None]):
+            if at in places:
+                wanted[at] = machine.picture().shades
+            if one is not None:
+                machine.frame(one) if one < SECONDS else machine.seconds(one - SECONDS)
+    expect('the pictures of the play', sought(timeline) == wanted, True)
+    middle = timeline.at(places[1])
+    expect('a place', (middle.frames, middle.given_until, timeline.at(timeline.count).frames), (449, int(times.date) - 3, frames))
+    game.close()
+    game, timeline = opened()
+    expect('they are there again', ([one.frames for one in timeline.moments], timeline.frames), ([FRAMES_BETWEEN, 2 * FRAMES_BETWEEN], frames))
+    game.close()
+    # a state that somebody has put there leads to no other picture
+    held = cache.read_bytes()
+    forged = timeline.moments[0]
+    forged.packed = zlib.compress(bytes(100_000))
+    cache.write_bytes(held[:len(timeline.cart) + 21] + forged.record())
+    game, timeline = opened()
+    expect('forged, and dropped', (len(timeline.moments), sought(timeline) == wanted, len(timeline.moments)), (1, True, 2))
+    game.close()
+    support.until('kept anew', lambda: len(timeline.held()) == 3)
+    # the cache of another play of the same length, of another cartridge, none, and what is no cache
+    inputs = ''.join(f'{line}\n' for line in run(room.program, 'recorded', str(cart), str(recording)).replace('frames 01', 'frames 02').splitlines())
+    expect('an edited play', 'frames 02' in inputs, True)
+    save, recording = room.path('other.gbkeep'), room.path('other.rec')
+    with Game(cart, save, room.program, recording) as other:
+        for move in map(own_move, map(str.split, inputs.splitlines())):
+            getattr(other, move[0])(*move[1:])
+    cache = Path(f'{recording}.timeline')
+    for content in (held, held[:21] + bytes(32) + held[53:], None, b'mine', held[:-9]):
+        cache.unlink(missing_ok=True)
+        if content is not None:
+            cache.write_bytes(content)
+        game, timeline = opened()
+        expect('none of another', timeline.moments, [])
+        found = sought(timeline)
+        expect('played from power-on, and kept on the way', (found == wanted, len(timeline.moments)), (True, 2))
+        game.close()
+        expect('what is not ours stays', cache.read_bytes() == b'mine', content == b'mine')
+    cache.unlink()
+    os.symlink(room.path('victim'), cache)
+    game, timeline = opened()
+    sought(timeline)
+    game.close()
+    expect('no link is followed', room.path('victim').exists(), False)
+
+
+def test_a_long_timeline_is_thinned(room):
+    """What a recording's moments take is bounded: where there is no room, half of them go, evenly."""
+    line = RecordedTimeline.__new__(RecordedTimeline)
+    line.most, line.moments = 10_000, [Stamped(bytes(100), 600 * at, 0, 600 * at) for at in range(100)]
+    expect('half of them', [one.count for one in line.thinned()], list(range(0, 60_000, 1200)))
+    line.most = 100_000
+    expect('and where there is room, all', len(line.thinned()), 50)
 
 
 def test_batteries(room):

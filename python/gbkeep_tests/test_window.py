@@ -67,8 +67,8 @@ class Room:
 
 
 def begun(player):
-    """Waits until a game is played."""
-    player.until('^saved')
+    """Waits until a game is played: that of a recording is played again before."""
+    player.until('^saved', 120)
     return player
 
 
@@ -213,7 +213,6 @@ def test_going_back(room):
     player.hold('Return', 0.2)
     time.sleep(1)
     paused(player)
-    first = room.shot(player)
     for _ in range(8):
         player.keys('key', 'n')
         time.sleep(0.1)
@@ -225,8 +224,7 @@ def test_going_back(room):
     player.until('^Back by [1-9]')
     player.keys('keyup', 'r')
     player.until_gone('^Back by')
-    third = room.shot(player)
-    expect('it went back', third in (first, second), False)
+    expect('it went back', room.shot(player) != second, True)
     player.keys('key', 'F8')
     player.until('^Undone')
     expect('undone', room.shot(player), second)
@@ -275,8 +273,9 @@ def test_going_back(room):
 
 
 def test_recorded(room):
-    """A recorded game goes forward alone; rewind begins a branch of it."""
+    """A recorded game goes forward alone; rewind begins a branch of it, and so does the timeline, at any moment, which can be given a name."""
     save, recording = room.path('run.gbkeep'), room.path('run.rec')
+    room.prefers(shows_counter=True)
     player = begun(room.open('--record', recording, CART, save))
     player.until('^saved.*recorded$')
     for key in ('F3', 'F8', 'F9'):
@@ -292,9 +291,25 @@ def test_recorded(room):
         player.press(answer)
         player.until_gone('^Begin a branch here\\?$')
     player.until('^A branch: run-2.gbkeep, recorded in run-2.rec', 120)
+    player.until('frame [0-9,]+, 1 rerecords$')
+    player.wait(lambda: player.act('win.timeline') or player.find_state('^Begin a branch here$') or player.keys('key', 'Escape'), 'the recording is not read')
+    frame = int(re.search('frame ([0-9,]+)$', player.until('^0:00:[0-9]+, frame [0-9,]+$'))[1].replace(',', ''))
+    for _ in range(3):
+        player.keys('key', 'Left')
+    player.until(f'^0:00:[0-9]+, frame {frame - 3:,}$')
+    player.keys('key', 'Tab')
+    player.screen.do('type', 'first room')
+    player.keys('key', 'Return')
+    notes = room.path('run-2.rec.notes')
+    player.wait(lambda: f'mark {frame - 3} first room\n' in notes.read_text(), 'no mark is kept')
+    player.press('Begin a branch here')
+    player.until('^Begin a branch here\\?$')
+    player.press('Begin a branch')
+    player.until('^A branch: run-3.gbkeep, recorded in run-3.rec', 120)
+    expect('its notes', room.path('run-3.rec.notes').read_text().splitlines()[1:], ['rerecords 2', f'mark {frame - 3} first room'])
     time.sleep(1)
     player.close()
-    for one, other in (('run-2.gbkeep', 'run-2.rec'), (save, recording)):
+    for one, other in (('run-3.gbkeep', 'run-3.rec'), ('run-2.gbkeep', 'run-2.rec'), (save, recording)):
         expect(f'{one} agrees', run(room.gbkeep, 'verify', str(CART), str(room.path(one)), str(room.path(other)))[:6], 'agree ')
     count = room.inputs(save)
     for answer, goes in (('Cancel', False), ('Go on', True)):

@@ -119,7 +119,7 @@ class Files:
 
 def free_names(*paths: str) -> list[str]:
     """These names with the first number, from 2 on, with which neither they nor the files beside them are there."""
-    ends = ('', '.time', '.recorded', '.slot', *(f'.slot{number}' for number in range(1, STATES + 1)))
+    ends = ('', '.time', '.recorded', '.notes', '.timeline', '.slot', *(f'.slot{number}' for number in range(1, STATES + 1)))
     number = 2
     while True:
         names = [str(path.with_name(f'{path.stem}-{number}{path.suffix}')) for path in map(Path, paths)]

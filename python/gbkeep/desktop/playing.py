@@ -18,6 +18,7 @@ from .files import (LINE_SECONDS, WARNING_SECONDS, Files, battery_name, keep_sta
                     with_recording)
 from .mark import Mark
 from .preferences import Preferences
+from .recorded import RecordedTimeline
 from .refusals import Stopped, Told, told_of
 from .shelf import Shelf, entry_of, games_folder, keep_picture, own_save, picture_file
 from .steering import Steering
@@ -226,11 +227,15 @@ class Play(threading.Thread):
         """A game is open: the list and the view have it, and its timeline is read."""
         files = self.files
         assert files is not None
-        with contextlib.suppress(WrongInput, OSError):
+        with contextlib.suppress(WrongInput, Unsafe, OSError):
             entry = entry_of(files.cart, files.save, game.header.title, files.recording)
             self.shelf.note(entry)
-            self.timeline = Timeline(files.save, bytes.fromhex(entry.digest), game.command == 'record')
-            self.timeline.read(game.count)
+            self.timeline, digest = None, bytes.fromhex(entry.digest)
+            if game.command != 'record':
+                self.timeline = Timeline(files.save, digest)
+                self.timeline.read(game.count)
+            elif isinstance(game, ShownGame):
+                self.timeline = RecordedTimeline(files.cart, digest, entry.recording, self.program, game)
         self.face.began(files.save)
         self.title = printable(game.header.title) or printable(Path(files.cart).stem)
         self.saved_time = time.monotonic()
@@ -257,7 +262,8 @@ class Play(threading.Thread):
         unsaved = now - self.saved_time if game.saved < game.count else 0.0
         steering = self.steering
         self.face.stands(Standing(self.title, game.count, game.saved, unsaved, self.speed.rate, steering.is_paused, steering.stays_fast or steering.is_held('Fast'),
-                                  game.command == 'record', self.timeline.frames if self.timeline else self.frames, self.buttons))
+                                  game.command == 'record', self.timeline.frames if self.timeline else self.frames, self.buttons,
+                                  self.timeline.rerecords if isinstance(self.timeline, RecordedTimeline) else 0))
 
     def begin_save(self, game: Played) -> None:
         if game.saved >= self.pending[0]:

@@ -17,6 +17,8 @@ UNDONE = 'Undone: the game is as it was before.'
 WAS_RESET = 'The game was reset.'
 RECORDED = 'A recorded game only goes forward. Rewind and the timeline begin a branch of it.'
 SAVED_AGAIN, CLOCK_GOES_ON = 'The game is saved again.', 'The clock goes on.'
+NO_MOMENTS = 'A moment of play is kept each ten seconds, for the last hour.'
+READS_RECORDING, RECORDING_UNREAD = 'The recording is being read: look again in a moment.', 'The recording can\'t be read.'
 BRANCH_BEGINS = 'A branch is being made.'
 GOES_ON_AGAIN = 'The program that keeps the game was ended by something else. The game goes on.'
 
@@ -45,6 +47,7 @@ class Standing:
     is_recorded: bool = False
     frames: int = 0
     buttons: int = 0
+    rerecords: int = 0
 
     def line(self, pause_key: str = 'P') -> str:
         """What stands below the title."""
@@ -56,7 +59,7 @@ class Standing:
         return f'{saved}, {self.rate:.0%}' if self.is_fast else saved
 
     def counter(self) -> str:
-        return f'{self.rate:.0%}, frame {self.frames:,}'
+        return f'{self.rate:.0%}, frame {self.frames:,}' + (f', {self.rerecords:,} rerecords' if self.rerecords else '')
 
 
 def when(moment: float, now: float) -> str:

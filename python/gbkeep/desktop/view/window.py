@@ -583,7 +583,7 @@ class MainWindow(Adw.ApplicationWindow):
 
     def show_timeline(self) -> None:
         if self.play and self.play.timeline and not self.side:
-            self.show_side(TimelineWindow(self, self.play.timeline, self.chosen.palette, self.is_recorded, self.go_to))
+            self.show_side(TimelineWindow(self, self.play.timeline, self.chosen.palette, self.go_to))
 
     def go_to(self, moment: Stamped) -> None:
         self.steering.want('Go to', moment)
