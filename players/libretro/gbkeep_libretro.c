@@ -66,9 +66,9 @@ enum { MOST_AHEAD = 8 };
 enum { MANY_UNSAVED = 1600, MOST_UNSAVED = 3000 };
 /* as many inputs as a SAVE may have beyond the last line of SAVE.time where the power was cut: those of half a minute, and some */
 enum { INPUTS_BETWEEN = 2000 };
-/* a leap of the date that is not taken; an earlier date that is no fault, since clocks are set right all the time */
-enum { YEAR = 366 * 86400, NO_FAULT = 60 };
-enum { MOST_TIME_BYTES = 512, MOST_TIME_LINES = 8 };
+/* a leap back that is not taken */
+enum { YEAR = 366 * 86400 };
+enum { MOST_TIME_BYTES = 512 };
 /* so few seconds are given to the clock while the game goes on: of the line that SAVE.time has before, a power cut may leave the count too small */
 enum { FEW_SECONDS = 5 };
 /* the first number behind those of the standard streams */
@@ -91,7 +91,7 @@ enum {
 };
 /* what the front end's has behind it: two numbers */
 enum { NUMBER = 8, STATE_MORE = 2 * NUMBER };
-static const long long LAST_SECOND = 99999999999, MOST_SECONDS = 0xffffffff;
+static const long long LAST_SECOND = 99999999999;
 static const double FRAMES_A_SECOND = 4194304.0 / 70224;
 
 static const struct retro_variable VARIABLES[] = {
@@ -116,10 +116,11 @@ static retro_input_poll_t poll_input;
 static retro_input_state_t pressed;
 static retro_log_printf_t log_line;
 
-/* A line of SAVE.time: a SAVE with so many inputs or more was given the time until then. */
-struct time_line {
-    unsigned long long count;
-    long long seconds;
+/* What SAVE.time is to have, and its first line. */
+struct clock_text {
+    gbkeep_clock_line line;
+    uint8_t bytes[GBKEEP_CLOCK_TEXT];
+    size_t length;
 };
 
 enum work { NO_WORK, SAVE, CLAIM, NOTE };
@@ -139,8 +140,7 @@ struct job {
     size_t count, room;
     /* what SAVE.time is to have */
     char clock_file[PATH_MAX];
-    struct time_line lines[2];
-    int line_count;
+    struct clock_text text;
 };
 
 enum news { NEWS, REFUSAL };
@@ -164,14 +164,11 @@ static struct {
     unsigned long long frame, saved_frame, played;
     /* inputs: all, those that no save was asked for, and those that are saved */
     unsigned long long count, asked, saved;
-    /* the save that was asked for: until when the clock was given, whether SAVE.time is to be told of it */
-    long long asked_until;
-    bool is_noted;
+    /* what SAVE.time is to have once the save that was asked for is done, if anything */
+    struct clock_text note;
     /* a state or the power switch is unsaved: the next save writes a whole state */
     bool is_whole;
-    /* the clock's time: until when it was given, what SAVE.time says of that, and the session's own time */
-    long long given_until, opened_milliseconds, began_milliseconds;
-    struct time_line written;
+    gbkeep_clock clock;
     bool clock_stands;
     uint8_t shades[SHADES];
     char fault[512], shown[MOST_SHOWN + 1];
@@ -511,20 +508,18 @@ static bool make_calls(struct job *job) {
     return true;
 }
 
-static int read_clock_file(const char *path, int save, struct time_line lines[MOST_TIME_LINES]);
+static ssize_t read_clock_file(const char *path, int save, uint8_t bytes[MOST_TIME_BYTES + 1]);
 
-/* Puts these lines in the place of SAVE.time, durably. What is not taken as one stays. */
-static bool write_clock_file(const char *file, int save, const struct time_line lines[], int count) {
-    struct time_line old[MOST_TIME_LINES];
-    char path[PATH_MAX], text[MOST_TIME_BYTES] = "";
+/* Puts this text in the place of SAVE.time, durably. What is not taken as one stays. */
+static bool write_clock_file(const char *file, int save, const struct clock_text *text) {
+    uint8_t old[MOST_TIME_BYTES + 1];
+    char path[PATH_MAX];
     const char *name;
     if (read_clock_file(file, save, old) < 0)
         return false;
     snprintf(path, sizeof path, "%s", file);
-    for (int one = 0; one < count; one++)
-        snprintf(text + strlen(text), sizeof text - strlen(text), "%llu %lld\n", lines[one].count, lines[one].seconds);
     int folder = open_folder(path, &name);
-    bool good = folder >= 0 && put_file(folder, name, text, strlen(text), -1, save);
+    bool good = folder >= 0 && put_file(folder, name, text->bytes, text->length, -1, save);
     close_one(&folder);
     return good;
 }
@@ -542,7 +537,7 @@ static void *work(void *given) {
     if (job->work == SAVE)
         good = make_calls(job);
     else
-        good = write_clock_file(job->clock_file, job->file, job->lines, job->line_count);
+        good = write_clock_file(job->clock_file, job->file, &job->text);
     if (!atomic_compare_exchange_strong(&job->outcome, &running, good ? DONE : FAILED)) {
         free_job(job);
         atomic_fetch_sub(&left, 1);
@@ -642,7 +637,7 @@ static bool take_calls(gbkeep_session *session) {
 /* Has the thread save what is unsaved. SAVE.time is to name the save where nothing else is written there for it. */
 static bool ask_save(bool is_noted) {
     uint64_t count = 0;
-    game.job->count = 0;
+    game.job->count = 0, game.note.length = 0;
     uint32_t code = gbkeep_session_save(game.session, &count);
     if (code != GBKEEP_DONE)
         return give_up_by(code);
@@ -650,7 +645,8 @@ static bool ask_save(bool is_noted) {
         return give_up("no memory");
     game.asked = count, game.is_whole = false;
     game.played = 0, game.saved_frame = game.frame;
-    game.is_noted = is_noted, game.asked_until = game.given_until;
+    if (game.has_clock && is_noted)
+        game.note.length = gbkeep_clock_note(&game.clock, count, &game.note.line, game.note.bytes);
     begin_work(SAVE);
     return true;
 }
@@ -681,25 +677,15 @@ static bool is_own(int fd, int save) {
         && (found.stx_uid == geteuid() || found.stx_uid == 0 || (owned.stx_mode != 0 && found.stx_uid == owned.stx_uid));
 }
 
-/* The lines of SAVE.time: how many there are; 0 where it is not there or empty, and -1 where it is no file of the core's or the window's. */
-static int read_clock_file(const char *path, int save, struct time_line lines[MOST_TIME_LINES]) {
-    char text[MOST_TIME_BYTES + 1];
-    int fd = open_above(AT_FDCWD, path, O_RDONLY | O_NONBLOCK | O_NOCTTY | O_NOFOLLOW, 0), found = 0;
+/* The text of SAVE.time: how long it is; 0 where it is not there or empty, and -1 where it is no file of the core's or the window's. */
+static ssize_t read_clock_file(const char *path, int save, uint8_t bytes[MOST_TIME_BYTES + 1]) {
+    gbkeep_clock_found found;
+    int fd = open_above(AT_FDCWD, path, O_RDONLY | O_NONBLOCK | O_NOCTTY | O_NOFOLLOW, 0);
     if (fd < 0)
         return errno == ENOENT && !exists(path) ? 0 : -1;
-    ssize_t size = is_own(fd, save) ? read(fd, text, sizeof text) : -1;
+    ssize_t size = is_own(fd, save) ? read(fd, bytes, MOST_TIME_BYTES + 1) : -1;
     close(fd);
-    if (size < 0 || size > MOST_TIME_BYTES || memchr(text, 0, (size_t)size))
-        return -1;
-    text[size] = 0;
-    for (const char *at = text; *at; found++) {
-        unsigned long long count, seconds;
-        if (found == MOST_TIME_LINES || !take_number(&at, ULLONG_MAX, &count) || *at++ != ' ' || !take_number(&at, (unsigned long long)LAST_SECOND, &seconds)
-            || (*at && *at++ != '\n'))
-            return -1;
-        lines[found] = (struct time_line){count, (long long)seconds};
-    }
-    return found;
+    return size < 0 || gbkeep_clock_look(bytes, (size_t)size, 0, 0, 0, &found) != GBKEEP_DONE ? -1 : size;
 }
 
 static bool note_clock(bool good) {
@@ -710,104 +696,79 @@ static bool note_clock(bool good) {
     return good;
 }
 
-static bool write_time(const struct time_line lines[], int count) {
-    if (!note_clock(write_clock_file(game.clock_file, game.file, lines, count)))
-        return false;
-    game.written = lines[0];
-    return true;
+static bool write_time(const struct clock_text *text) {
+    return note_clock(write_clock_file(game.clock_file, game.file, text));
 }
 
-/* Has the thread write these lines. */
-static void begin_lines(enum work kind, const struct time_line lines[], int count) {
-    memcpy(game.job->lines, lines, (size_t)count * sizeof *lines);
-    game.job->line_count = count;
+/* Has the thread write this text. */
+static void begin_text(enum work kind, const struct clock_text *text) {
+    game.job->text = *text;
     begin_work(kind);
 }
 
-/* Until when the clock of a SAVE with so many inputs was given; of one that is older than each line, the last of all. */
-static long long given_until(const struct time_line lines[], int count, unsigned long long inputs) {
-    long long fitting = -1, last = -1;
-    for (int one = 0; one < count; one++) {
-        if (lines[one].seconds > last)
-            last = lines[one].seconds;
-        if (lines[one].count <= inputs && lines[one].seconds > fitting)
-            fitting = lines[one].seconds;
-    }
-    return fitting >= 0 ? fitting : last;
-}
-
-static long long session_milliseconds(void) {
+/* A moment of the session. */
+static uint64_t moment(void) {
 #ifdef CLOCK_BOOTTIME
     /* it goes on while the computer sleeps */
-    return milliseconds_of(CLOCK_BOOTTIME);
+    return (uint64_t)milliseconds_of(CLOCK_BOOTTIME);
 #else
-    return milliseconds();
+    return (uint64_t)milliseconds();
 #endif
 }
 
-/* The time by the computer's date as the game was opened, and a clock that nobody sets since then. */
-static long long session_seconds(void) {
-    return (game.opened_milliseconds + session_milliseconds() - game.began_milliseconds) / 1000;
-}
-
 /* How many seconds the clock has to be given. */
-static long long seconds_due(void) {
-    long long passed = session_seconds() - game.given_until;
-    if (!game.has_clock || passed <= 0 || game.count == ULLONG_MAX)
-        return 0;
-    return passed > MOST_SECONDS ? MOST_SECONDS : passed;
+static uint32_t seconds_due(void) {
+    return game.has_clock ? gbkeep_clock_due(&game.clock, moment()) : 0;
 }
 
-/* Gives the clock so many seconds, as an input. */
-static bool give_seconds(long long passed) {
-    if (passed <= 0)
+/* Gives the clock the seconds that SAVE.time was told of, as an input. */
+static bool give_seconds(void) {
+    uint32_t passed = gbkeep_clock_give(&game.clock);
+    if (passed == 0)
         return true;
-    uint32_t code = gbkeep_session_seconds(game.session, (uint32_t)passed);
+    uint32_t code = gbkeep_session_seconds(game.session, passed);
     if (code != GBKEEP_DONE)
         return give_up_by(code);
-    game.given_until += passed;
     game.count++;
     return true;
 }
 
-/* What passed while the game was away: given where the option says so, the file knows, and it is no leap of the date. */
-static void take_up_time(const struct time_line lines[], int count) {
-    long long now = game.given_until, until = given_until(lines, count, game.count), away = now - until;
-    unsigned long long least = ULLONG_MAX, most = 0;
-    for (int one = 0; one < count; one++) {
-        least = lines[one].count < least ? lines[one].count : least;
-        most = lines[one].count > most ? lines[one].count : most;
-    }
-    if (away < -NO_FAULT)
-        tell(REFUSAL, 300, away < -(long long)YEAR ? "The computer's date is before the time until which the cartridge's clock was given. Take SAVE.time away where the date is right."
+/* What passed while the game was away is given where the option says so, the file knows, and it is no leap of the date: what is answered for it. */
+static uint32_t take_up_time(const gbkeep_clock_found *found) {
+    long long away = (long long)found->seconds;
+    bool is_behind = found->away == GBKEEP_CLOCK_BEHIND, is_far_before = found->away == GBKEEP_CLOCK_FAR_BEFORE;
+    if (found->away == GBKEEP_CLOCK_BEFORE || is_far_before)
+        tell(REFUSAL, 300, is_far_before ? "The computer's date is before the time until which the cartridge's clock was given. Take SAVE.time away where the date is right."
              : "The computer's date is before the time until which the cartridge's clock was given.", "The date is before SAVE.time's: the clock goes on as it was");
-    if (away <= 0) {
-        game.given_until = until;
-    } else if (game.gives_time_away && away > YEAR) {
+    if (!game.gives_time_away)
+        return GBKEEP_CLOCK_LEAVE;
+    if (found->away == GBKEEP_CLOCK_FAR_BEHIND) {
         tell(REFUSAL, 600, NULL, "Away for %lld days, by the date: the clock is not given them", away / 86400);
-    } else if (game.gives_time_away) {
-        if (game.count < least || (game.count > most && game.count - most > INPUTS_BETWEEN))
-            tell(REFUSAL, 300, "SAVE was played elsewhere, or is another copy: its clock is given the seconds since it was last played here.",
-                 "SAVE was played elsewhere: its clock gets %lld seconds", away);
-        game.given_until = until;
+        return GBKEEP_CLOCK_LEAVE;
     }
+    if (is_behind && found->played != GBKEEP_CLOCK_HERE)
+        tell(REFUSAL, 300, "SAVE was played elsewhere, or is another copy: its clock is given the seconds since it was last played here.",
+             "SAVE was played elsewhere: its clock gets %lld seconds", away);
+    return GBKEEP_CLOCK_GIVE;
 }
 
 static void begin_clock(void) {
-    struct time_line lines[MOST_TIME_LINES];
+    struct clock_text text;
+    gbkeep_clock_found found = {0};
+    uint8_t bytes[MOST_TIME_BYTES + 1];
+    uint32_t answer = GBKEEP_CLOCK_NO_ANSWER;
     if (!game.has_clock)
         return;
-    long long now = milliseconds_of(CLOCK_REALTIME);
-    game.given_until = now / 1000;
-    int count = read_clock_file(game.clock_file, game.file, lines);
-    if (count > 0 && !game.is_new)
-        take_up_time(lines, count);
-    else if (count == 0 && game.count > 0 && game.gives_time_away)
+    uint64_t date = (uint64_t)milliseconds_of(CLOCK_REALTIME), began = moment();
+    ssize_t length = read_clock_file(game.clock_file, game.file, bytes);
+    bool is_known = length > 0 && !game.is_new;
+    if (is_known && gbkeep_clock_look(bytes, (size_t)length, game.count, INPUTS_BETWEEN, date, &found) == GBKEEP_DONE)
+        answer = take_up_time(&found);
+    else if (length == 0 && game.count > 0 && game.gives_time_away)
         tell(REFUSAL, 300, NULL, "There is no SAVE.time: the clock goes on from where it stood");
-    game.opened_milliseconds = now > game.given_until * 1000 ? now : game.given_until * 1000;
-    game.began_milliseconds = session_milliseconds();
-    game.written = (struct time_line){game.count, game.given_until};
-    write_time(&(struct time_line){game.count, game.given_until}, 1);
+    gbkeep_clock_open(bytes, is_known ? (size_t)length : 0, game.count, date, began, answer, &game.clock);
+    text.length = gbkeep_clock_text(&game.clock.written, text.bytes);
+    write_time(&text);
 }
 
 /* ---- saves */
@@ -841,16 +802,19 @@ static bool look_around(void) {
             tell(NEWS, 60, NULL, "saved %llu", game.saved);
         if (is_told)
             return true;
-        struct time_line line = {game.saved, game.asked_until};
-        if (game.has_clock && game.is_noted && !game.clock_stands && game.saved > game.written.count)
-            begin_lines(NOTE, &line, 1);
+        if (game.note.length > 0 && !game.clock_stands)
+            begin_text(NOTE, &game.note);
         return true;
     }
-    if (note_clock(outcome == DONE))
-        game.written = job->lines[0];
-    if (done == NOTE)
+    bool is_written = note_clock(outcome == DONE);
+    if (done == NOTE) {
+        if (is_written)
+            gbkeep_clock_noted(&game.clock, &job->text.line);
         return true;
-    if (outcome == DONE && !give_seconds(job->lines[0].seconds - game.given_until))
+    }
+    if (is_written)
+        gbkeep_clock_claimed(&game.clock, &job->text.line);
+    if (is_written && !give_seconds())
         return false;
     return ask_save(false);
 }
@@ -861,15 +825,21 @@ static bool look_around(void) {
 static bool begin_save(void) {
     if (game.job->work != NO_WORK)
         return true;
-    long long passed = seconds_due();
-    struct time_line lines[2] = {{game.count + 1, game.given_until + passed}, game.written};
-    if (passed > 0 && (passed <= FEW_SECONDS || game.is_whole)) {
-        begin_lines(CLAIM, lines, 2);
+    struct clock_text text;
+    uint32_t passed = seconds_due();
+    text.length = passed > 0 ? gbkeep_clock_claim(&game.clock, game.count, moment(), &text.line, text.bytes) : 0;
+    if (text.length == 0)
+        return ask_save(true);
+    if (passed <= FEW_SECONDS || game.is_whole) {
+        begin_text(CLAIM, &text);
         return true;
     }
-    if (passed > 0 && write_time(lines, 2) && !give_seconds(passed))
-        return false;
-    return ask_save(passed <= 0);
+    if (write_time(&text)) {
+        gbkeep_clock_claimed(&game.clock, &text.line);
+        if (!give_seconds())
+            return false;
+    }
+    return ask_save(false);
 }
 
 /* Whether a save is due: by the frames that were not taken back by a state, or else by very many. */
@@ -1328,16 +1298,16 @@ RETRO_API bool retro_serialize(void *data, size_t size) {
     size_t length = game.state_length;
     if (!(game.session || game.machine) || size < length + STATE_MORE)
         return false;
-    put_number(bytes + length, (unsigned long long)game.given_until);
+    put_number(bytes + length, game.clock.until);
     put_number(bytes + length + NUMBER, game.frame);
     return (game.session ? gbkeep_session_state(game.session, bytes, length) : gbkeep_machine_state(game.machine, bytes, length)) == GBKEEP_DONE;
 }
 
 /* The clock of a state is behind: it is given the seconds since, in front of the next save, as far as they would be given to a game that was away. */
 static void go_back(unsigned long long until) {
-    unsigned long long now = (unsigned long long)session_seconds();
-    bool is_given = until <= now && now - until <= YEAR && (game.gives_time_away || until >= (unsigned long long)game.opened_milliseconds / 1000);
-    game.given_until = (long long)(is_given ? until : now);
+    uint64_t now = game.clock.until + gbkeep_clock_due(&game.clock, moment());
+    bool is_given = until <= now && now - until <= YEAR && (game.gives_time_away || until >= game.clock.opened / 1000);
+    gbkeep_clock_go_back(&game.clock, is_given ? until : now);
 }
 
 /* A state that is taken is an input; so it is saved with the next save, and not at once. */
