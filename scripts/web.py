@@ -10,7 +10,8 @@ module that these hand to clang is taken, and changed for WebAssembly with a 64-
 
 - its layout and its triple;
 - the name of the processor, and three attributes about its stack, which are left out;
-- the name of one instruction, a table lookup of 16 bytes, which both processors have.
+- the name of one instruction, a table lookup of 16 bytes, which both processors have;
+- one instruction, the sums of the pairs of bytes of two vectors, which is written out as the three that it is.
 
 That is all, and each of them is printed. A layout, a triple, an instruction, a declared function, an attribute or a word of assembly that is not known here
 ends it with a line. scripts/memory32.py makes one with a 32-bit memory of what is linked."""
@@ -47,6 +48,14 @@ PLAIN = {'alwaysinline', 'captures', 'cold', 'hot', 'immarg', 'inlinehint', 'mem
          'noinline', 'norecurse', 'noreturn', 'nosync', 'nounwind', 'speculatable', 'willreturn'}
 # a table of 16 bytes, looked up at 16 places; at a place from 16 on both give 0
 RENAMED = {'llvm.aarch64.neon.tbl1.v16i8': 'llvm.wasm.swizzle'}
+# the sums of bytes 0 and 1, 2 and 3 .. of two vectors behind one another
+PAIRS, SUMS = 'llvm.aarch64.neon.addp.v16i8', 'sums_of_pairs'
+WRITTEN_OUT = f'''define internal <16 x i8> @{SUMS}(<16 x i8> %one, <16 x i8> %other) alwaysinline nounwind {WASM_PROCESSOR} {{
+  %even = shufflevector <16 x i8> %one, <16 x i8> %other, <16 x i32> <{', '.join(f'i32 {at}' for at in range(0, 32, 2))}>
+  %odd = shufflevector <16 x i8> %one, <16 x i8> %other, <16 x i32> <{', '.join(f'i32 {at}' for at in range(1, 32, 2))}>
+  %sums = add <16 x i8> %even, %odd
+  ret <16 x i8> %sums
+}}'''
 # those that mean the same on each processor, without the types behind their names
 SAME = {'llvm.' + name for name in
         'abs assume bitreverse bswap ctlz ctpop cttz experimental.noalias.scope.decl expect fshl fshr lifetime.end lifetime.start memcpy memmove memset '
@@ -65,7 +74,7 @@ FEATURES = ['-mcpu=lime1', '-msimd128', '-mbulk-memory']
 STACK = 1 << 20
 EXPORTS = ['malloc', 'free', *('gbkeep_session_' + call for call in
                                 'sectors begin import resume free frames seconds power restore save next_call picture state_length state battery_length battery '
-                                'count'.split())]
+                                'count'.split()), *('gbkeep_clock_' + call for call in 'look open text due claim claimed give note noted go_back'.split())]
 
 
 def run(words, **how):
@@ -160,7 +169,7 @@ def attributes(line):
 def for_wasm(text):
     """The module for WebAssembly, and what was changed, a line each. Raises Unknown."""
     lines, changes, declared, defined = [], [], set(), set()
-    renamed = left_out = 0
+    renamed = left_out = written_out = 0
     for line in text.splitlines():
         if line.startswith('target datalayout'):
             line = changed_line(line, 'datalayout', WASM_LAYOUT, LAYOUT)
@@ -182,12 +191,16 @@ def for_wasm(text):
             for old, new in RENAMED.items():
                 renamed += line.count(f'@{old}(')
                 line = line.replace(f'@{old}(', f'@{new}(')
+            if found and found[1] == 'declare' and found[2] == PAIRS:
+                line = WRITTEN_OUT
+            written_out += line.count(f'@{PAIRS}(')
+            line = line.replace(f'@{PAIRS}(', f'@{SUMS}(')
         lines.append(line)
     if len(changes) != 2:
         raise Unknown('the layout or the triple is missing')
     for name in sorted(declared):
         if name.startswith('llvm.'):
-            if name not in RENAMED and base_of(name) not in SAME:
+            if name not in RENAMED and name != PAIRS and base_of(name) not in SAME:
                 raise Unknown(f'an instruction: {name}')
         elif name not in HEAP:
             raise Unknown(f'a declared function: {name}')
@@ -198,6 +211,7 @@ def for_wasm(text):
     changes.append(f'processor {PROCESSOR} -> {WASM_PROCESSOR}')
     changes.append(f'left out in {left_out} places: {", ".join(LEFT_OUT)}')
     changes += [f'instruction {old} -> {new}, in {renamed} places' for old, new in RENAMED.items()]
+    changes.append(f'instruction {PAIRS}, written out, in {written_out} places')
     changes.append(f'from outside: {", ".join(sorted(one for one in declared if one in HEAP))}')
     return result, changes
 

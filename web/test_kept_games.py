@@ -428,9 +428,11 @@ class KeptGames(Asking):
         """What stands beside such a game says exactly how many inputs it has."""
         found = self.asks().wait_for("""
             const { Clock } = await import('./clock.js');
+            const { Library, MODULE } = await import('./library.js');
+            const library = await Library.load(MODULE);
             const count = 2n ** 53n + 1n;
             let text = `${count} 1000000`;
-            const clock = new Clock({ read: () => text, write: (other) => { text = other; } }, count, () => 1000100.5, () => 7);
+            const clock = new Clock(library, { read: () => text, write: (other) => { text = other; } }, count, () => 1000100.5, () => 7);
             const notice = await clock.begin(() => null);
             const passed = clock.claim(count);
             clock.given();

@@ -61,6 +61,12 @@ class Changes(unittest.TestCase):
         self.assertIn('instruction llvm.aarch64.neon.tbl1.v16i8 -> llvm.wasm.swizzle, in 2 places', changes)
         self.assertIn('from outside: rattle_alloc', changes)
 
+    def test_sums_of_pairs_are_written_out(self):
+        uses = MODULE.replace('tbl1.v16i8', 'addp.v16i8')
+        text, changes = web.for_wasm(uses)
+        self.assertEqual((text.count(f'call <16 x i8> @{web.SUMS}('), text.count(web.WRITTEN_OUT), 'aarch64' in text), (1, 1, False))
+        self.assertIn(f'instruction {web.PAIRS}, written out, in 1 places', changes)
+
     def test_what_is_not_known(self):
         for old, new, why in (
                 (web.LAYOUT, 'e-m:e', 'the datalayout is not'), (web.OTHER, 'x86_64-unknown-linux-gnu', 'the triple is not'), (f'target triple = "{web.OTHER}"\n', '', 'missing'),

@@ -30,7 +30,7 @@ from examples.demo.check import SAYS, glyphs, letters
 from examples.speed import build as speed_roms
 from gbkeep import Picture
 from gbkeep.palettes import PALETTES
-from gbkeep.timed_game import SaveTime, TimedGame, given_until, lines_of
+from gbkeep.timed_game import SaveTime, TimedGame, milliseconds
 from scripts.page import list_files
 
 HERE = Path(__file__).resolve().parent
@@ -970,10 +970,12 @@ def clock_of(program, cart, save):
 
 CLOCK_TRACES = '''
 const { Clock } = await import('./clock.js');
+const { Library, MODULE } = await import('./library.js');
+const library = await Library.load(MODULE);
 const out = [];
 for (const { text: begun, count: inputs, now, answer, steps } of given[0]) {
   let [text, date, ran, count, saved] = [begun, now, 500.25, BigInt(inputs), BigInt(inputs)];
-  const clock = new Clock({ read: () => text, write: (other) => { text = other; } }, count, () => date, () => ran);
+  const clock = new Clock(library, { read: () => text, write: (other) => { text = other; } }, count, () => date, () => ran);
   const asked = [];
   const notice = await clock.begin((question) => { asked.push(question); return answer; });
   const row = [notice !== null, asked.length];
@@ -1011,8 +1013,7 @@ class OtherClock(TimedGame):
             self.asked += 1
             return trace['answer']
         self.ask = answered
-        self.opened, self.began, self.given_until = self.date, self.ran, int(self.date)
-        self._begin_clock(False)
+        self._begin_clock(False, milliseconds(self.date), milliseconds(self.ran))
 
     def seconds(self, count):
         self.passed, self.count = count, self.count + 1
@@ -1227,11 +1228,14 @@ class Rewound(WithBrowser):
         found = self.listed().wait_for(CLOCK_LINES, traces)
         self.assertGreater(len(found), 3_000)
         for text, count, until in found:
-            self.assertEqual(given_until(lines_of(text), count), until, (text, count))
+            lines = [tuple(map(int, line.split())) for line in text.split('\n')]
+            self.assertEqual(max(seconds for least, seconds in lines if least <= count), until, (text, count))
 
 
 CLOCK_LINES = '''
 const { Clock } = await import('./clock.js');
+const { Library, MODULE } = await import('./library.js');
+const library = await Library.load(MODULE);
 // what stands beside a game, how many inputs its SAVE has, and until when the clock of that SAVE was given
 const found = [];
 for (const trace of given[0]) {
@@ -1241,7 +1245,7 @@ for (const trace of given[0]) {
     text = other;
     if (saved !== null) { found.push([text, Number(saved.count), saved.until]); }
   };
-  const clock = new Clock({ read: () => text, write }, count, () => 1000000.5, () => ran);
+  const clock = new Clock(library, { read: () => text, write }, count, () => 1000000.5, () => ran);
   await clock.begin(() => null);
   let until = clock.until;
   saved = { count, until };

@@ -97,10 +97,12 @@ interface StateRow {
   canUndo: boolean;
 }
 
-/** A line beside an image: one with so many inputs or more was given the time until then, in seconds since 1970. */
-interface ClockLine {
-  count: bigint;
-  until: number;
+/** What is found in the text of a clock: how many lines; how far the date is, and so many seconds; where the image was played. */
+interface ClockFound {
+  lines: number;
+  away: number;
+  seconds: number;
+  played: number;
 }
 
 /** Where the text of a clock stands. */

@@ -303,7 +303,7 @@ export class Game {
         handle.flush();
       },
     };
-    this.clock = new Clock(place, this.resumed);
+    this.clock = new Clock(this.library, place, this.resumed);
     this.say(await this.clock.begin(this.ask));
     this.keep();
   }

@@ -23,6 +23,16 @@ import { Refused } from './refusals.js';
  * @property {(session: bigint) => bigint} gbkeep_session_battery_length
  * @property {(session: bigint, bytes: bigint, length: bigint) => number} gbkeep_session_battery
  * @property {(session: bigint) => bigint} gbkeep_session_count
+ * @property {(text: bigint, length: bigint, count: bigint, between: bigint, date: bigint, out: bigint) => number} gbkeep_clock_look
+ * @property {(text: bigint, length: bigint, count: bigint, date: bigint, moment: bigint, answer: number, out: bigint) => number} gbkeep_clock_open
+ * @property {(line: bigint, text: bigint) => bigint} gbkeep_clock_text
+ * @property {(clock: bigint, moment: bigint) => number} gbkeep_clock_due
+ * @property {(clock: bigint, count: bigint, moment: bigint, line: bigint, text: bigint) => bigint} gbkeep_clock_claim
+ * @property {(clock: bigint, line: bigint) => void} gbkeep_clock_claimed
+ * @property {(clock: bigint) => number} gbkeep_clock_give
+ * @property {(clock: bigint, saved: bigint, line: bigint, text: bigint) => bigint} gbkeep_clock_note
+ * @property {(clock: bigint, line: bigint) => void} gbkeep_clock_noted
+ * @property {(clock: bigint, until: bigint) => void} gbkeep_clock_go_back
  */
 
 /** The module's file beside this one, packed by gzip. */
@@ -31,6 +41,7 @@ export const PICTURE_LENGTH = 160 * 144;
 export const SECTOR = 512;
 const DONE = 0;
 const NO_MEMORY = 1;
+const NO_TIME = 22;
 const WRITE = 1;
 const SYNC = 2;
 // how what gzip has packed begins
@@ -39,6 +50,12 @@ const GZIP = 0x1f;
 const CALL_LENGTH = 8 + SECTOR;
 // what a state has in front of the snapshot
 const HEADER_LENGTH = 40;
+// a clock: numbers of 64 bits, of which the first is until when it was given; the line that SAVE.time has is behind three
+const CLOCK_LENGTH = 64;
+const WRITTEN = 24n;
+const LINE_LENGTH = 16;
+const FOUND_LENGTH = 32;
+const CLOCK_TEXT = 384;
 
 // a module with a function of vectors: i8x16.popcnt of a splat of 0
 const OF_VECTORS = new Uint8Array([
@@ -320,5 +337,122 @@ export class Session {
       check(this.library.calls.gbkeep_session_state(this.at, at, BigInt(this.stateLength)));
       bytes.set(this.library.bytes(at, this.stateLength));
     });
+  }
+}
+
+/** What is found in a text of SAVE.time where a game with so many inputs is opened at this date, in milliseconds since 1970, and up to `between` inputs come
+ * between two saves; null where it is no such text.
+ * @param {Library} library
+ * @param {string} text
+ * @param {bigint} count
+ * @param {bigint} between
+ * @param {bigint} date
+ * @returns {ClockFound | null} */
+export function lookAtClock(library, text, count, between, date) {
+  const bytes = new TextEncoder().encode(text);
+  return library.with([bytes, FOUND_LENGTH], (at, out) => {
+    const code = library.calls.gbkeep_clock_look(at, BigInt(bytes.length), count, between, date, out);
+    if (code === NO_TIME) {
+      return null;
+    }
+    check(code);
+    const [lines, away, seconds, played] = [0n, 8n, 16n, 24n].map((place) => Number(library.long(out + place)));
+    return { lines, away, seconds, played };
+  });
+}
+
+/** The clock of a cartridge. `claim` and `note` answer what SAVE.time is to have, or nothing; once it has that, `claimed` and `noted` say so. */
+export class CartridgeClock {
+  /** Its numbers, and the first line of the last text. */
+  clock = new Uint8Array(CLOCK_LENGTH);
+  line = new Uint8Array(LINE_LENGTH);
+
+  /** @param {Library} library */
+  constructor(library) {
+    this.library = library;
+  }
+
+  /** That of a game with so many inputs that is opened at this date and this moment, in milliseconds, with this text of SAVE.time.
+   * @param {Library} library
+   * @param {string} text
+   * @param {bigint} count
+   * @param {bigint} date
+   * @param {bigint} moment
+   * @param {number} answer */
+  static open(library, text, count, date, moment, answer) {
+    const made = new CartridgeClock(library);
+    const bytes = new TextEncoder().encode(text);
+    library.with([bytes], (at) => made.by((calls, clock) => check(calls.gbkeep_clock_open(at, BigInt(bytes.length), count, date, moment, answer, clock))));
+    return made;
+  }
+
+  /** Runs something with the clock and the line in the memory, and takes them back.
+   * @template T
+   * @param {(calls: Calls, clock: bigint, line: bigint, text: bigint) => T} run
+   * @returns {T} */
+  by(run) {
+    return this.library.with([this.clock, this.line, CLOCK_TEXT], (clock, line, text) => {
+      const result = run(this.library.calls, clock, line, text);
+      this.clock.set(this.library.bytes(clock, CLOCK_LENGTH));
+      this.line.set(this.library.bytes(line, LINE_LENGTH));
+      return result;
+    });
+  }
+
+  /** The text that a call leaves.
+   * @param {(calls: Calls, clock: bigint, line: bigint, text: bigint) => bigint} run */
+  textBy(run) {
+    return this.by((calls, clock, line, text) => {
+      const length = Number(run(calls, clock, line, text));
+      return new TextDecoder().decode(this.library.bytes(text, length));
+    });
+  }
+
+  /** Until when it was given, in seconds since 1970. */
+  get until() {
+    return Number(new DataView(this.clock.buffer).getBigUint64(0, true));
+  }
+
+  /** What SAVE.time is to have as the game is opened. */
+  text() {
+    return this.textBy((calls, clock, line, text) => calls.gbkeep_clock_text(clock + WRITTEN, text));
+  }
+
+  /** How many seconds are due.
+   * @param {bigint} moment */
+  due(moment) {
+    return this.by((calls, clock) => calls.gbkeep_clock_due(clock, moment) >>> 0);
+  }
+
+  /** For the seconds that are due to a game of so many inputs.
+   * @param {bigint} count
+   * @param {bigint} moment */
+  claim(count, moment) {
+    return this.textBy((calls, clock, line, text) => calls.gbkeep_clock_claim(clock, count, moment, line, text));
+  }
+
+  claimed() {
+    this.by((calls, clock, line) => calls.gbkeep_clock_claimed(clock, line));
+  }
+
+  /** How many seconds the next input gives: those that were claimed. */
+  give() {
+    return this.by((calls, clock) => calls.gbkeep_clock_give(clock) >>> 0);
+  }
+
+  /** For so many inputs that are saved, where no second was due.
+   * @param {bigint} saved */
+  note(saved) {
+    return this.textBy((calls, clock, line, text) => calls.gbkeep_clock_note(clock, saved, line, text));
+  }
+
+  noted() {
+    this.by((calls, clock, line) => calls.gbkeep_clock_noted(clock, line));
+  }
+
+  /** The game goes on with the machine of a state whose clock had been given until then.
+   * @param {number} until */
+  goBack(until) {
+    this.by((calls, clock) => calls.gbkeep_clock_go_back(clock, BigInt(until)));
   }
 }
