@@ -1,11 +1,5 @@
-"""What its maker adds to a recording: author, comments, marks, and how often it was branched. It stands in RECORDING.notes, a text that can be edited, and
-may be missing:
-
-    # notes of a recording of gbkeep
-    author NAME
-    rerecords 3
-    comment as many of these as are wanted
-    mark 1234 a place by its count of inputs"""
+"""What its maker adds to a recording: author, comments, marks, and how often it was branched. It stands in RECORDING.notes (gbkeep-movie says how), a text that
+can be edited, and may be missing."""
 import os
 import re
 from dataclasses import dataclass, field

@@ -14,7 +14,7 @@ A friendly script has one move a line. `#` begins a comment; words are separated
     seconds 3600    3,600 seconds pass on the cartridge's clock
     save
     power           the power switch, off and on
-    mark boss       gives this place a name
+    mark the boss   gives this place a name
     include FILE    the moves of another file; its name is looked for beside this one
 
 All files of a script have 1,000,000 lines and 32 MiB at most, with what is included as often as it is; `-` is standard input.
@@ -239,9 +239,9 @@ def moves_of_file(path: PathLike, reading: Reading, around: tuple) -> list[tuple
 def friendly_move(words: list[str]) -> tuple:
     name = words[0]
     if name == 'mark':
-        if len(words) != 2:
-            raise ValueError('a mark has one name')
-        return ('mark', words[1])
+        if len(words) < 2:
+            raise ValueError('a mark has a name')
+        return ('mark', ' '.join(words[1:]))
     if name in ('frame', 'frames', 'seconds', 'save', 'power'):
         return own_move(words)
     if len(words) > 2:

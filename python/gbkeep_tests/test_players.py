@@ -16,13 +16,18 @@ import sys
 import time
 import types
 import zipfile
+from array import array
+from pathlib import Path
 
 from gbkeep_tests import support
 from gbkeep_tests.support import CART, TOP, clock_cart, expect, needs_terminal
 from gbkeep.branch import branch
-from gbkeep.film import HEAD as FILM_HEAD
+from gbkeep.film import BLACK, BRIGHT, DIM, HEAD as FILM_HEAD, lines_below
 from gbkeep.game import A, LEFT, RIGHT, START, Game, DebugMachine, NoState, Refused, begin, run
-from gbkeep.movie import bk2_frames, bk2_of, frames_of, log_frames, moves_of, vbm_frames
+from gbkeep.input_files import WrongInput
+from gbkeep.movie import POWER, bk2_frames, bk2_of, frames_of, log_frames, marked, moves_of, movie_of, vbm_frames
+from gbkeep.new_files import Unsafe
+from gbkeep.notes import Notes, keep_notes, notes_of
 from gbkeep.pictures import png_of
 from gbkeep.rest import rest_of
 from gbkeep.script import Wrong, friendly_line, friendly_move, friendly_moves, inputs_of, own_lines, own_moves
@@ -509,12 +514,12 @@ def vbm_of(buttons, starts=0, controllers=1, system=0, more=b''):
 
 def test_movies(room):
     rnd = random.Random(3)
-    frames = bytes(buttons for _ in range(40) for buttons in [rnd.randrange(256)] * rnd.choice([1, 1, 2, 30]))
-    expect('moves of frames', bytes(frames_of(moves_of(frames))), frames)
+    frames = array('H', (buttons for _ in range(40) for buttons in [rnd.randrange(256) + rnd.choice((0, 0, 0, POWER))] * rnd.choice([1, 1, 2, 30])))
+    expect('moves of frames', frames_of(moves_of(frames)), frames)
     movie = room.write('there.bk2', bk2_of(frames, 'a game'))
     expect('there and back', bk2_frames(movie), frames)
     script = room.tool('movie', 'script', movie)
-    expect('its script', bytes(frames_of(own_moves(script.encode()))), frames)
+    expect('its script', (frames_of(own_moves(script.encode())), 'power' in script), (frames, True))
     made = room.path('made.bk2')
     expect('a movie of a script', room.tool('movie', 'bk2', room.write('movie.script', script + 'save\n'), made), '')
     expect('its frames', bk2_frames(made), frames)
@@ -522,7 +527,7 @@ def test_movies(room):
     # another order of the keys, a console's keys and a tilt before them
     key = 'LogKey:#Power|#Tilt X|Tilt Y|#P1 A|P1 B|P1 Up|P1 Down|P1 Left|P1 Right|P1 Start|P1 Select|\n'
     log = key + '|.|    0,   -3,|AB......|\n|.|    0,    0,|..U.L.S.|\n'
-    expect('another log', log_frames(log.encode().splitlines()), bytes([0x30, 0x86]))
+    expect('another log', log_frames(log.replace('|.|    0,    0', '|P|    0,    0').encode().splitlines()), array('H', [0x30, 0x86 + POWER]))
     expect('right, left, up, down of VisualBoyAdvance', vbm_frames(vbm_of([0x10, 0x20, 0x40, 0x80, 1, 2, 4, 8])), bytes([1, 2, 4, 8, 0x10, 0x20, 0x40, 0x80]))
     expect('a script of it', room.tool('movie', 'script', room.write('old.vbm', vbm_of([0, 0, 0x11]))), 'frames 00 2\nframe 11\n')
 
@@ -539,8 +544,56 @@ def test_movies(room):
                       (lambda: vbm_frames(vbm_of([0], starts=1)), 'from a saved state'), (lambda: vbm_frames(vbm_of([0], starts=2)), 'from a battery file'),
                       (lambda: vbm_frames(vbm_of([0], system=2)), 'another machine: GBC'), (lambda: vbm_frames(vbm_of([0], controllers=3)), 'other players'),
                       (lambda: vbm_frames(vbm_of([0, 0x800])), 'frame 2: a reset'), (lambda: vbm_frames(vbm_of([0, 0])[:-1]), 'cut short'),
-                      (lambda: vbm_frames(b'VBM'), 'cut short'), (lambda: list(frames_of([('seconds', 3)])), 'has no clock')):
+                      (lambda: vbm_frames(b'VBM'), 'cut short'), (lambda: frames_of([('seconds', 3)]), 'has no clock'),
+                      (lambda: frames_of([('power',)]), 'ends with `power`'), (lambda: frames_of([('power',), ('power',), ('frames', 0, 1)]), '`power` twice')):
         expect(f'refused: {why}', why in (refusal(call) or ''), True)
+
+
+def test_notes(room):
+    """Author, comments, marks and the count of rerecords of a movie, of a script and of a recording."""
+    friendly = '# author Ann B\n# rerecords 7\n# comment any%, no glitches\n# comment \x41 second line\nwait 60\nmark the first boss\nstart 4\npower\nright 36\nmark end\n'
+    made, again = room.path('made.bk2'), room.path('again.bk2')
+    expect('a movie', room.tool('movie', 'bk2', room.write('friendly.txt', friendly), made), '')
+    with zipfile.ZipFile(made) as movie:
+        texts = {name: movie.read(f'{name}.txt').decode() for name in ('Header', 'Comments', 'Markers')}
+    expect('its parts', ('Author Ann B\nrerecordCount 7\n' in texts['Header'], texts['Comments'], texts['Markers']),
+           (True, 'any%, no glitches\nA second line\n', '60\tthe first boss\n100\tend\n'))
+    expect('and back', room.tool('movie', 'friendly', made), friendly)
+    # what could be a comment, a line or a terminal's orders
+    with zipfile.ZipFile(again, 'w') as movie:
+        for name, text in (('Header', 'Author a#b\x1b[2J\nrerecordCount -1\n'), ('Comments', '\n#1\r\n' + 'x' * 9_999), ('Markers', '0\t#2\n1 \n9\tbeyond\nx y\n2\tthe end'),
+                           ('Input Log', 'LogKey:#A|\n|.|\n|A|\n')):
+            movie.writestr(f'{name}.txt', text)
+    expect('crafted', room.tool('movie', 'friendly', again), f'# author a＃b\\x1b[2J\n# comment ＃1\n# comment {"x" * 497}...\nmark ＃2\nwait\nA\nmark the end\n')
+    moves = [('frames', 1, 10), ('seconds', 5), ('power',), ('frames', 2, 10)]
+    expect('marks by inputs', list(marked(moves, {0: 'a', 4: 'b', 10: 'c', 12: 'd', 22: 'e', 99: 'f'})),
+           [('mark', 'a'), ('frames', 1, 4), ('mark', 'b'), ('frames', 1, 6), ('mark', 'c'), ('seconds', 5), ('power',), ('mark', 'd'), ('frames', 2, 10), ('mark', 'e'), ('mark', 'f')])
+    expect('two in one frame', movie_of([('mark', 'a'), ('mark', 'b'), ('frames', 0, 1)])[1], {0: 'a, b'})
+    # a recording's, which a branch takes on
+    save, recording = room.path('run.gbkeep'), room.path('run.rec')
+    with Game(CART, save, room.program, recording) as game:
+        game.frames(0, 60)
+        game.frames(START, 4)
+    expect('none yet', notes_of(recording), Notes())
+    notes = Notes('Ann', 2, ['a run'], {10: 'here', 62: 'and there'})
+    keep_notes(recording, notes)
+    expect('kept', notes_of(recording), notes)
+    expect('a branch', room.tool('branch', CART, recording, '61', room.path('b.gbkeep'), room.path('b.rec')), 'saved 61\n')
+    expect('its notes', notes_of(room.path('b.rec')), Notes('Ann', 3, ['a run'], {10: 'here'}))
+    expect('a movie of it', room.tool('movie', 'bk2', CART, room.path('b.rec'), room.path('b.bk2')), '')
+    expect('and its script', room.tool('movie', 'friendly', room.path('b.bk2')), '# author Ann\n# rerecords 3\n# comment a run\nwait 10\nmark here\nwait 50\nstart\n')
+    beside = Path(f'{recording}.notes')
+    for text in ('mark x y\n', 'mark 5\n', 'rerecords\n', 'rerecords 5 x\n', f'mark {2 ** 64} x\n', 'author \x1b[2J\n', f'comment {"x" * 2_000}\n', 'mine\n'):
+        beside.write_text(text)
+        expect(f'{text!r:.30}', 'run.rec.notes, line 1: this is no author' in room.tool('movie', 'bk2', CART, recording, room.path('none.bk2')), True)
+    expect('a file of somebody else', 'another kind of file' in str(support.refusal(lambda: keep_notes(recording, notes), Unsafe)), True)
+    beside.unlink()
+    os.symlink(room.path('victim'), beside)
+    for call in (lambda: keep_notes(recording, notes), lambda: notes_of(recording)):
+        expect('no link is followed', 'this is a link' in str(support.refusal(call, Unsafe, WrongInput)), True)
+    beside.unlink()
+    room.write('c.rec.notes', 'mine')
+    expect('a branch over notes', ('exists already' in room.tool('branch', CART, recording, '3', room.path('c.gbkeep'), room.path('c.rec')), room.path('c.rec').exists()), (True, False))
 
 
 def test_film(room):
@@ -556,6 +609,20 @@ def test_film(room):
     expect('its last picture', data[-160 * 144:], bytes(16 + 73 * shade for shade in shades))
     expect('on a pipe', subprocess.run([*words_of('film'), '--to', '2', CART, script, '-'], capture_output=True,
                                        env=dict(os.environ, GBKEEP=room.program)).stdout[:len(FILM_HEAD) + 6], FILM_HEAD + b'FRAME\n')
+
+
+def test_film_with_inputs(room):
+    """Below the picture are the buttons, those that are pressed bright, and the number of the frame."""
+    film, size = room.path('inputs.y4m'), 160 * (144 + 28)
+    expect('a film', room.tool('film', '--inputs', CART, room.write('film.txt', 'wait 2\nright 1\n'), film), '')
+    head, *frames = film.read_bytes().split(b'FRAME\n')
+    expect('its size', (b' W160 H172 ' in head, [len(one) for one in frames]), (True, [size] * 3))
+
+    def below(buttons, count, rerecords=0):
+        return lines_below(buttons, count, rerecords)
+    expect('its lines', [frame[160 * 144:] for frame in frames], [below(0, 1), below(0, 2), below(1, 3)])
+    expect('what is pressed', [{*below(buttons, 1)[:160 * 14]} for buttons in (0, 16, 255)], [{BLACK, DIM}, {BLACK, DIM, BRIGHT}, {BLACK, BRIGHT}])
+    expect('the number, and the rerecords', len({below(0, count, rerecords)[160 * 14:] for count in (1, 2, 59, 61, 9_999_999) for rerecords in (0, 1, 12)}), 15)
 
 
 def test_recordings(room):

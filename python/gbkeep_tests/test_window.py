@@ -21,7 +21,7 @@ from gbkeep.desktop.preferences import HEAD
 from gbkeep.game import A, Game, run
 from gbkeep.pictures import shades_of
 from gbkeep_tests import support
-from gbkeep_tests.support import DAY, TOP, clock_cart, expect, seconds_shown, tool_words
+from gbkeep_tests.support import DAY, TOP, clock_cart, expect, seconds_shown, tool_words, wrong
 from gbkeep_tests.window_driver import DEMO, Player, Screen, needs
 
 CART = DEMO / 'demo.gb'
@@ -80,6 +80,18 @@ def paused(player):
 def goes_on(player):
     player.keys('key', 'p')
     player.until('^saved')
+
+
+def timeline(player, button):
+    """Opens the timeline, once it has something to show."""
+    for _ in range(60):
+        player.act('win.timeline')
+        if player.until(f'^({button}|There is nothing yet)$') == button:
+            return
+        player.keys('key', 'Escape')
+        player.until_gone('^There is nothing yet$')
+        time.sleep(1)
+    wrong('the timeline stays empty')
 
 
 # ---- play, and its end
@@ -249,15 +261,7 @@ def test_going_back(room):
         goes_on(player)
     player.keys('key', 'g')
 
-    def has_moments():
-        player.act('win.timeline')
-        time.sleep(1)
-        if player.find_state('^Go on from here'):
-            return True
-        player.keys('key', 'Escape')
-        time.sleep(3)
-        return False
-    player.wait(has_moments, 'the timeline stays empty', 120)
+    timeline(player, 'Go on from here')
     player.press('Go on from here')
     player.until('The game goes on from there')
     last = room.shot(player)
@@ -292,7 +296,7 @@ def test_recorded(room):
         player.until_gone('^Begin a branch here\\?$')
     player.until('^A branch: run-2.gbkeep, recorded in run-2.rec', 120)
     player.until('frame [0-9,]+, 1 rerecords$')
-    player.wait(lambda: player.act('win.timeline') or player.find_state('^Begin a branch here$') or player.keys('key', 'Escape'), 'the recording is not read')
+    timeline(player, 'Begin a branch here')
     frame = int(re.search('frame ([0-9,]+)$', player.until('^0:00:[0-9]+, frame [0-9,]+$'))[1].replace(',', ''))
     for _ in range(3):
         player.keys('key', 'Left')
