@@ -43,9 +43,9 @@ TRIED = {
     'play': 'playing/src/played.rt', 'stream': 'streaming/src/streamed.rt', 'record': 'recorded_play/src/recorded.rt', 'run_test': 'test_run/src/run.rt',
     'debug_rom': 'commands/src/debug.rt', 'debug_game': 'commands/src/debug.rt', 'show_lines': 'commands/src/show.rt',
     'resume': 'session/src/resuming.rt', 'read_script': 'script/src/lines.rt', 'power_on': 'machine/src/machine.rt', 'make_moves': 'playing/src/moves.rt',
-    'obey': 'debugging/src/obeying.rt', 'gbkeep_make_machine': 'c_interface/src/machine_exports.rt',
+    'obey': 'debugging/src/obeying.rt', 'gbkeep_raw_machine_new': 'c_interface/src/machine_exports.rt',
 }
-ANSWERS = {'power_on': 'Err(AllocError)', 'make_moves': 'Ok(false)', 'gbkeep_make_machine': 'NO_MEMORY'}
+ANSWERS = {'power_on': 'Err(AllocError)', 'make_moves': 'Ok(false)', 'gbkeep_raw_machine_new': 'NO_MEMORY'}
 
 
 def tokens(text):

@@ -180,7 +180,7 @@ fn put(lines: &[Line], text: &mut [u8]) -> u64
 /// Looks at a text of SAVE.time: what is to be asked and told where a game with so many inputs is opened at this date, in milliseconds since 1970. So
 /// many inputs come between two writes of SAVE.time at most.
 #[unsafe(no_mangle)]
-pub extern "C" fn gbkeep_look_clock(
+pub extern "C" fn gbkeep_raw_clock_look(
     text: &[u8],
     count: u64,
     between: u64,
@@ -202,7 +202,7 @@ pub extern "C" fn gbkeep_look_clock(
 
 /// The line of a text of SAVE.time that stands behind so many others.
 #[unsafe(no_mangle)]
-pub extern "C" fn gbkeep_read_clock(text: &[u8], before: usize, line: &mut HeldLine) -> u32
+pub extern "C" fn gbkeep_raw_clock_line_of(text: &[u8], before: usize, line: &mut HeldLine) -> u32
     ensures line { result ≡ done → IsRead text.now (λ lines. slice_get lines before ≡ Some (line_of line.new)) }
     ensures long { 512 < length text.now → result ≡ no_time }
     ensures refused { ¬ (result ≡ done) → (result ≡ no_time) × (line.new ≡ line.old) }
@@ -222,7 +222,7 @@ pub extern "C" fn gbkeep_read_clock(text: &[u8], before: usize, line: &mut HeldL
 /// The clock of a game with so many inputs that is opened at this date and this moment, with this text of SAVE.time. `code` says what the player
 /// answered.
 #[unsafe(no_mangle)]
-pub extern "C" fn gbkeep_open_clock(
+pub extern "C" fn gbkeep_raw_clock_open(
     text: &[u8],
     count: u64,
     date: u64,
@@ -252,7 +252,7 @@ pub extern "C" fn gbkeep_open_clock(
 
 /// Writes the text of a line, and tells how long it is.
 #[unsafe(no_mangle)]
-pub extern "C" fn gbkeep_write_clock(line: &HeldLine, text: &mut [u8]) -> u64
+pub extern "C" fn gbkeep_raw_clock_text(line: &HeldLine, text: &mut [u8]) -> u64
     requires room { length text.old ≡ 384 }
     ensures { take result text.new ≡ text_of (line_of line.now ∷ []) }
 {
@@ -261,7 +261,7 @@ pub extern "C" fn gbkeep_write_clock(line: &HeldLine, text: &mut [u8]) -> u64
 
 /// How many seconds are due.
 #[unsafe(no_mangle)]
-pub extern "C" fn gbkeep_due_clock(clock: &HeldClock, moment: u64) -> u32
+pub extern "C" fn gbkeep_raw_clock_due(clock: &HeldClock, moment: u64) -> u32
     ensures { result ≡ due_at (clock_of clock.now) moment }
 {
     clock.clock().due(moment)
@@ -270,7 +270,7 @@ pub extern "C" fn gbkeep_due_clock(clock: &HeldClock, moment: u64) -> u32
 /// The line that is to be written before the next input of a game of so many gives what is due, and the text with it: how long that is; 0 where
 /// nothing is due.
 #[unsafe(no_mangle)]
-pub extern "C" fn gbkeep_claim_clock(
+pub extern "C" fn gbkeep_raw_clock_claim(
     clock: &mut HeldClock,
     count: u64,
     moment: u64,
@@ -296,7 +296,7 @@ pub extern "C" fn gbkeep_claim_clock(
 
 /// That text is written, durably.
 #[unsafe(no_mangle)]
-pub extern "C" fn gbkeep_claimed_clock(clock: &mut HeldClock, line: &HeldLine)
+pub extern "C" fn gbkeep_raw_clock_claimed(clock: &mut HeldClock, line: &HeldLine)
     ensures { clock_of clock.new ≡ claimed_by (clock_of clock.old) (line_of line.now) }
 {
     let mut held = clock.clock();
@@ -306,7 +306,7 @@ pub extern "C" fn gbkeep_claimed_clock(clock: &mut HeldClock, line: &HeldLine)
 
 /// How many seconds the next input gives: those that were claimed.
 #[unsafe(no_mangle)]
-pub extern "C" fn gbkeep_give_clock(clock: &mut HeldClock) -> u32
+pub extern "C" fn gbkeep_raw_clock_give(clock: &mut HeldClock) -> u32
     ensures seconds { result ≡ to_give (clock_of clock.old) }
     ensures clock { clock_of clock.new ≡ giving (clock_of clock.old) }
 {
@@ -319,7 +319,7 @@ pub extern "C" fn gbkeep_give_clock(clock: &mut HeldClock) -> u32
 /// The line that is to be written once so many inputs are saved and none gave seconds, and its text: how long that is; 0 where nothing is to be
 /// written.
 #[unsafe(no_mangle)]
-pub extern "C" fn gbkeep_note_clock(
+pub extern "C" fn gbkeep_raw_clock_note(
     clock: &mut HeldClock,
     saved: u64,
     line: &mut HeldLine,
@@ -343,7 +343,7 @@ pub extern "C" fn gbkeep_note_clock(
 
 /// That text is written, durably.
 #[unsafe(no_mangle)]
-pub extern "C" fn gbkeep_noted_clock(clock: &mut HeldClock, line: &HeldLine)
+pub extern "C" fn gbkeep_raw_clock_noted(clock: &mut HeldClock, line: &HeldLine)
     ensures { clock_of clock.new ≡ noted_by (clock_of clock.old) (line_of line.now) }
 {
     let mut held = clock.clock();
@@ -353,7 +353,7 @@ pub extern "C" fn gbkeep_noted_clock(clock: &mut HeldClock, line: &HeldLine)
 
 /// The game goes on with the machine of a state whose clock had been given until then.
 #[unsafe(no_mangle)]
-pub extern "C" fn gbkeep_return_clock(clock: &mut HeldClock, until: u64)
+pub extern "C" fn gbkeep_raw_clock_go_back(clock: &mut HeldClock, until: u64)
     ensures { clock_of clock.new ≡ gone_back (clock_of clock.old) until }
 {
     let mut held = clock.clock();

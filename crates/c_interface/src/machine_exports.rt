@@ -15,7 +15,7 @@ use std::alloc::Global;
 
 /// Makes the machine of an image at power-on. A refusal leaves `out` as it was.
 #[unsafe(no_mangle)]
-pub extern "C" fn gbkeep_make_machine(alloc: Global, rom: &[u8], out: &mut MachineHandle) -> u32
+pub extern "C" fn gbkeep_raw_machine_new(alloc: Global, rom: &[u8], out: &mut MachineHandle) -> u32
     ensures held { result ≡ done → out.new.held ≡ true }
     ensures cartridge { result ≡ done → out.new.value.cartridge ≡ rom.now }
     ensures machine { result ≡ done → out.new.value.machine ≡ start rom.now }
@@ -35,7 +35,7 @@ pub extern "C" fn gbkeep_make_machine(alloc: Global, rom: &[u8], out: &mut Machi
 
 /// Frees a machine.
 #[unsafe(no_mangle)]
-pub extern "C" fn gbkeep_free_machine(machine: MachineHandle)
+pub extern "C" fn gbkeep_raw_machine_free(machine: MachineHandle)
     requires held { machine.held ≡ true }
 {
     drop(machine.into_box());
@@ -43,7 +43,7 @@ pub extern "C" fn gbkeep_free_machine(machine: MachineHandle)
 
 /// Plays `count` frames with these buttons.
 #[unsafe(no_mangle)]
-pub extern "C" fn gbkeep_play_machine(
+pub extern "C" fn gbkeep_raw_machine_frames(
     machine: MachineHandle,
     buttons: u8,
     count: u32,
@@ -61,7 +61,11 @@ pub extern "C" fn gbkeep_play_machine(
 
 /// Lets seconds pass on the clock.
 #[unsafe(no_mangle)]
-pub extern "C" fn gbkeep_wait_machine(machine: MachineHandle, seconds: u32, out: &mut MachineHandle)
+pub extern "C" fn gbkeep_raw_machine_seconds(
+    machine: MachineHandle,
+    seconds: u32,
+    out: &mut MachineHandle,
+)
     requires held { machine.held ≡ true }
     ensures held { out.new.held ≡ true }
     ensures machine { out.new.value.machine ≡ seconds_passed seconds machine.value.machine }
@@ -74,7 +78,7 @@ pub extern "C" fn gbkeep_wait_machine(machine: MachineHandle, seconds: u32, out:
 
 /// Switches the power off and on. A refusal, which is for want of memory, leaves the machine as it was.
 #[unsafe(no_mangle)]
-pub extern "C" fn gbkeep_power_machine(
+pub extern "C" fn gbkeep_raw_machine_power(
     alloc: Global,
     machine: MachineHandle,
     out: &mut MachineHandle,
@@ -96,7 +100,7 @@ pub extern "C" fn gbkeep_power_machine(
 
 /// Writes the picture into 23,040 bytes.
 #[unsafe(no_mangle)]
-pub extern "C" fn gbkeep_draw_machine(
+pub extern "C" fn gbkeep_raw_machine_picture(
     machine: MachineHandle,
     shades: &mut [u8],
     out: &mut MachineHandle,
@@ -115,7 +119,10 @@ pub extern "C" fn gbkeep_draw_machine(
 
 /// How many bytes a state has.
 #[unsafe(no_mangle)]
-pub extern "C" fn gbkeep_measure_machine(machine: MachineHandle, out: &mut MachineHandle) -> usize
+pub extern "C" fn gbkeep_raw_machine_state_length(
+    machine: MachineHandle,
+    out: &mut MachineHandle,
+) -> usize
     requires held { machine.held ≡ true }
     ensures held { out.new.held ≡ true }
     ensures length { result ≡ state_length (length machine.value.machine.processor.memory.banks.ram) }
@@ -130,7 +137,7 @@ pub extern "C" fn gbkeep_measure_machine(machine: MachineHandle, out: &mut Machi
 
 /// Writes the state.
 #[unsafe(no_mangle)]
-pub extern "C" fn gbkeep_keep_machine(
+pub extern "C" fn gbkeep_raw_machine_state(
     machine: MachineHandle,
     bytes: &mut [u8],
     out: &mut MachineHandle,
@@ -149,7 +156,7 @@ pub extern "C" fn gbkeep_keep_machine(
 
 /// Takes the machine whose state this is. A refusal leaves the machine as it was.
 #[unsafe(no_mangle)]
-pub extern "C" fn gbkeep_restore_machine(
+pub extern "C" fn gbkeep_raw_machine_restore(
     machine: MachineHandle,
     bytes: &[u8],
     out: &mut MachineHandle,
@@ -173,7 +180,7 @@ pub extern "C" fn gbkeep_restore_machine(
 
 /// Writes what the program would read from `address` on.
 #[unsafe(no_mangle)]
-pub extern "C" fn gbkeep_peek_machine(
+pub extern "C" fn gbkeep_raw_machine_memory(
     machine: MachineHandle,
     address: u16,
     bytes: &mut [u8],

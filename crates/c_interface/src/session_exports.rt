@@ -53,7 +53,7 @@ fn written(call: Call, sector: &mut u64, bytes: &mut [u8]) -> u32
 
 /// Tells how many sectors a game of this image needs.
 #[unsafe(no_mangle)]
-pub extern "C" fn gbkeep_needed_session(alloc: Global, rom: &[u8], sectors: &mut u64) -> u32
+pub extern "C" fn gbkeep_raw_session_sectors(alloc: Global, rom: &[u8], sectors: &mut u64) -> u32
     ensures need { result ≡ done → sectors.new ≡ need (snapshot_length (ram_length_of rom.now)) }
     ensures code { IsNeededCode rom.now result }
 {
@@ -68,7 +68,7 @@ pub extern "C" fn gbkeep_needed_session(alloc: Global, rom: &[u8], sectors: &mut
 
 /// Begins a game at power-on on a device of so many zero sectors. A refusal leaves `out` as it was.
 #[unsafe(no_mangle)]
-pub extern "C" fn gbkeep_begin_session(
+pub extern "C" fn gbkeep_raw_session_begin(
     alloc: Global,
     rom: &[u8],
     sectors: usize,
@@ -101,7 +101,7 @@ pub extern "C" fn gbkeep_begin_session(
 
 /// Begins a game with the RAM and the clocks of a battery file, on a device of so many zero sectors. A refusal leaves `out` as it was.
 #[unsafe(no_mangle)]
-pub extern "C" fn gbkeep_import_session(
+pub extern "C" fn gbkeep_raw_session_import(
     alloc: Global,
     rom: &[u8],
     battery: &[u8],
@@ -137,7 +137,7 @@ pub extern "C" fn gbkeep_import_session(
 
 /// Takes up the game that an image stands for. A refusal leaves `out` as it was.
 #[unsafe(no_mangle)]
-pub extern "C" fn gbkeep_resume_session(
+pub extern "C" fn gbkeep_raw_session_resume(
     alloc: Global,
     rom: &[u8],
     image: &[u8],
@@ -173,7 +173,7 @@ pub extern "C" fn gbkeep_resume_session(
 
 /// Frees a session. What is unsaved is lost.
 #[unsafe(no_mangle)]
-pub extern "C" fn gbkeep_free_session(session: SessionHandle)
+pub extern "C" fn gbkeep_raw_session_free(session: SessionHandle)
     requires held { session.held ≡ true }
 {
     drop(session.into_box());
@@ -181,7 +181,7 @@ pub extern "C" fn gbkeep_free_session(session: SessionHandle)
 
 /// Gives a frame with these buttons. A refusal changes nothing.
 #[unsafe(no_mangle)]
-pub extern "C" fn gbkeep_play_session(
+pub extern "C" fn gbkeep_raw_session_frame(
     session: SessionHandle,
     buttons: u8,
     out: &mut SessionHandle,
@@ -209,7 +209,7 @@ pub extern "C" fn gbkeep_play_session(
 
 /// Gives seconds of the clock, as one input. A refusal changes nothing.
 #[unsafe(no_mangle)]
-pub extern "C" fn gbkeep_wait_session(
+pub extern "C" fn gbkeep_raw_session_seconds(
     session: SessionHandle,
     seconds: u32,
     out: &mut SessionHandle,
@@ -237,7 +237,7 @@ pub extern "C" fn gbkeep_wait_session(
 
 /// Switches the power off and on, as one input. A refusal changes nothing.
 #[unsafe(no_mangle)]
-pub extern "C" fn gbkeep_power_session(
+pub extern "C" fn gbkeep_raw_session_power(
     alloc: Global,
     session: SessionHandle,
     out: &mut SessionHandle,
@@ -265,7 +265,7 @@ pub extern "C" fn gbkeep_power_session(
 
 /// Goes on with the machine of a state, as one input. A refusal changes nothing.
 #[unsafe(no_mangle)]
-pub extern "C" fn gbkeep_restore_session(
+pub extern "C" fn gbkeep_raw_session_restore(
     session: SessionHandle,
     bytes: &[u8],
     out: &mut SessionHandle,
@@ -293,7 +293,7 @@ pub extern "C" fn gbkeep_restore_session(
 
 /// Saves what is pending, and tells the count of all inputs. The calls that make it sure are then among those to be handed out.
 #[unsafe(no_mangle)]
-pub extern "C" fn gbkeep_save_session(
+pub extern "C" fn gbkeep_raw_session_save(
     session: SessionHandle,
     saved: &mut u64,
     out: &mut SessionHandle,
@@ -345,7 +345,7 @@ pub extern "C" fn gbkeep_save_session(
 
 /// Hands out the next call: its kind, and of a write its sector and its 512 bytes.
 #[unsafe(no_mangle)]
-pub extern "C" fn gbkeep_next_session(
+pub extern "C" fn gbkeep_raw_session_next_call(
     session: SessionHandle,
     sector: &mut u64,
     bytes: &mut [u8],
@@ -376,7 +376,7 @@ pub extern "C" fn gbkeep_next_session(
 
 /// Tells how many inputs there are, saved and unsaved.
 #[unsafe(no_mangle)]
-pub extern "C" fn gbkeep_count_session(session: SessionHandle, out: &mut SessionHandle) -> u64
+pub extern "C" fn gbkeep_raw_session_count(session: SessionHandle, out: &mut SessionHandle) -> u64
     requires held { session.held ≡ true }
     ensures held { out.new.held ≡ true }
     ensures count { result ≡ acknowledged_of session.value.session + length (pending_of session.value.session) }
@@ -390,7 +390,7 @@ pub extern "C" fn gbkeep_count_session(session: SessionHandle, out: &mut Session
 
 /// Writes the picture into 23,040 bytes.
 #[unsafe(no_mangle)]
-pub extern "C" fn gbkeep_draw_session(
+pub extern "C" fn gbkeep_raw_session_picture(
     session: SessionHandle,
     shades: &mut [u8],
     out: &mut SessionHandle,
@@ -408,7 +408,10 @@ pub extern "C" fn gbkeep_draw_session(
 
 /// How many bytes a state has.
 #[unsafe(no_mangle)]
-pub extern "C" fn gbkeep_measure_session(session: SessionHandle, out: &mut SessionHandle) -> usize
+pub extern "C" fn gbkeep_raw_session_state_length(
+    session: SessionHandle,
+    out: &mut SessionHandle,
+) -> usize
     requires held { session.held ≡ true }
     ensures held { out.new.held ≡ true }
     ensures length { result ≡ state_length (length (machine_of session.value.session).processor.memory.banks.ram) }
@@ -422,7 +425,7 @@ pub extern "C" fn gbkeep_measure_session(session: SessionHandle, out: &mut Sessi
 
 /// Writes the state.
 #[unsafe(no_mangle)]
-pub extern "C" fn gbkeep_keep_session(
+pub extern "C" fn gbkeep_raw_session_state(
     session: SessionHandle,
     bytes: &mut [u8],
     out: &mut SessionHandle,
@@ -441,7 +444,7 @@ pub extern "C" fn gbkeep_keep_session(
 
 /// How many bytes the battery file has.
 #[unsafe(no_mangle)]
-pub extern "C" fn gbkeep_battery_length_session(
+pub extern "C" fn gbkeep_raw_session_battery_length(
     session: SessionHandle,
     out: &mut SessionHandle,
 ) -> usize
@@ -458,7 +461,7 @@ pub extern "C" fn gbkeep_battery_length_session(
 
 /// Writes the battery file. A refusal leaves `bytes` as they were.
 #[unsafe(no_mangle)]
-pub extern "C" fn gbkeep_battery_session(
+pub extern "C" fn gbkeep_raw_session_battery(
     alloc: Global,
     session: SessionHandle,
     bytes: &mut [u8],

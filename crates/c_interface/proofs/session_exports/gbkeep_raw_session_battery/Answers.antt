@@ -3,8 +3,8 @@ use Rattle.cartridge.specs.Header.{has_battery}
 use Rattle.session.specs.Accessors.{machine_of, rom_of}
 use Rattle.battery_files.specs.Battery.{battery_of}
 use Rattle.embedding.specs.declared.game.Game.{Game}
-use Rattle.c_interface.proofs.session_exports.gbkeep_battery_session.Goals as goal
-use Rattle.c_interface.proofs.session_exports.gbkeep_battery_session.Goals.{in-Ok, in-Err}
+use Rattle.c_interface.proofs.session_exports.gbkeep_raw_session_battery.Goals as goal
+use Rattle.c_interface.proofs.session_exports.gbkeep_raw_session_battery.Goals.{in-Ok, in-Err}
 
 pub returns-clause-battery : goal.returns-clause-battery
 returns-clause-battery c = λ code.

@@ -1,8 +1,8 @@
 use Rattle.std.proofs.Common.{◌≡◌, ap, ◌∙◌, arith}
 use Rattle.machine.specs.Machine.{powered}
 use Rattle.embedding.specs.declared.console.Console.{Console}
-use Rattle.c_interface.proofs.machine_exports.gbkeep_power_machine.Goals as goal
-use Rattle.c_interface.proofs.machine_exports.gbkeep_power_machine.Goals.{in-Ok, in-Err}
+use Rattle.c_interface.proofs.machine_exports.gbkeep_raw_machine_power.Goals as goal
+use Rattle.c_interface.proofs.machine_exports.gbkeep_raw_machine_power.Goals.{in-Ok, in-Err}
 
 pub returns-clause-machine : goal.returns-clause-machine
 returns-clause-machine c = λ code.

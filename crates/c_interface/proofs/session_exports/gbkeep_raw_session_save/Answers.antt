@@ -5,7 +5,7 @@ use Rattle.session.specs.Inputs.{can_be_logged, inputs_of}
 use Rattle.session.specs.Stands.{IsAtRest, StandsAt, StandsBetween}
 use Rattle.embedding.specs.HostDevices.{host_disk}
 use Rattle.embedding.specs.declared.game.Game.{Game}
-use Rattle.c_interface.proofs.session_exports.gbkeep_save_session.Goals as goal
+use Rattle.c_interface.proofs.session_exports.gbkeep_raw_session_save.Goals as goal
 
 pub returns-clause-images : goal.returns-clause-images
 returns-clause-images c = λ whole.

@@ -4,8 +4,8 @@ use Rattle.session.specs.Calls.{input_answer}
 use Rattle.embedding.specs.States.{IsStateAnswer}
 use Rattle.embedding.specs.declared.game.Game.{Game}
 use Rattle.c_interface.specs.Codes.{answer_code}
-use Rattle.c_interface.proofs.session_exports.gbkeep_restore_session.Goals as goal
-use Rattle.c_interface.proofs.session_exports.gbkeep_restore_session.Goals.{in-Ok, in-Err}
+use Rattle.c_interface.proofs.session_exports.gbkeep_raw_session_restore.Goals as goal
+use Rattle.c_interface.proofs.session_exports.gbkeep_raw_session_restore.Goals.{in-Ok, in-Err}
 
 pub returns-clause-code : goal.returns-clause-code
 returns-clause-code c =
