@@ -1013,7 +1013,7 @@ class OtherClock(TimedGame):
             self.asked += 1
             return trace['answer']
         self.ask = answered
-        self._begin_clock(False, milliseconds(self.date), milliseconds(self.ran))
+        self._begin_clock(False, milliseconds(self.date), self.moment())
 
     def seconds(self, count):
         self.passed, self.count = count, self.count + 1

@@ -716,11 +716,6 @@ static uint64_t moment(void) {
 #endif
 }
 
-/* How many seconds the clock has to be given. */
-static uint32_t seconds_due(void) {
-    return game.has_clock ? gbkeep_clock_due(&game.clock, moment()) : 0;
-}
-
 /* Gives the clock the seconds that SAVE.time was told of, as an input. */
 static bool give_seconds(void) {
     uint32_t passed = gbkeep_clock_give(&game.clock);
@@ -826,11 +821,11 @@ static bool begin_save(void) {
     if (game.job->work != NO_WORK)
         return true;
     struct clock_text text;
-    uint32_t passed = seconds_due();
-    text.length = passed > 0 ? gbkeep_clock_claim(&game.clock, game.count, moment(), &text.line, text.bytes) : 0;
+    uint64_t now = moment();
+    text.length = game.has_clock ? gbkeep_clock_claim(&game.clock, game.count, now, &text.line, text.bytes) : 0;
     if (text.length == 0)
         return ask_save(true);
-    if (passed <= FEW_SECONDS || game.is_whole) {
+    if (gbkeep_clock_due(&game.clock, now) <= FEW_SECONDS || game.is_whole) {
         begin_text(CLAIM, &text);
         return true;
     }

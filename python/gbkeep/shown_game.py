@@ -124,13 +124,14 @@ class ShownGame:
         self._look()
         if self.is_saving:
             return
-        passed = self.game.due()
+        moment = self.game.moment()
+        passed = self.game.due(moment)
         if passed > FEW_SECONDS:
             self.save_all()
             return
         self.is_saving, self.since = True, time.monotonic()
         if passed > 0:
-            self.work.put(('claim', self.count))
+            self.work.put(('claim', self.count, moment))
         else:
             self.work.put(('save', True))
 
@@ -138,8 +139,9 @@ class ShownGame:
         """Gives the clock the seconds that have passed, saves, and answers the count of inputs."""
         self._settle()
         # the thread has nothing to do now
-        is_due = self.game.due() > 0
-        if is_due and self.game.claim(self.count):
+        moment = self.game.moment()
+        is_due = self.game.due(moment) > 0
+        if is_due and self.game.claim(self.count, moment):
             self._seconds()
         self.is_saving, self.since = True, time.monotonic()
         self.work.put(('save', not is_due))

@@ -121,7 +121,7 @@ class TimedGame(Game):
         is_new = not os.path.lexists(save)
         super().__init__(cart, save, program, recording)
         if self.header.has_clock():
-            self._begin_clock(is_new, milliseconds(now()), milliseconds(elapsed()))
+            self._begin_clock(is_new, milliseconds(now()), self.moment())
             self.save_all()
 
     def _begin_clock(self, is_new: bool, date: int, moment: int) -> None:
@@ -176,13 +176,17 @@ class TimedGame(Game):
         """Until when the clock was given, in seconds since 1970; 0 without one."""
         return self.clock.until if self.clock else 0
 
-    def due(self) -> int:
-        """How many seconds the clock has to be given."""
-        return self.clock.due(milliseconds(self.elapsed())) if self.clock else 0
+    def moment(self) -> int:
+        """The present moment, in milliseconds of the clock that nobody sets."""
+        return milliseconds(self.elapsed())
 
-    def claim(self, count: int) -> bool:
+    def due(self, moment: int) -> int:
+        """How many seconds the clock has to be given."""
+        return self.clock.due(moment) if self.clock else 0
+
+    def claim(self, count: int, moment: int) -> bool:
         """Has SAVE.time say that the next input of a game of so many gives the clock the seconds that are due; False where it can't."""
-        text = self.clock.claim(count, milliseconds(self.elapsed())) if self.clock else b''
+        text = self.clock.claim(count, moment) if self.clock else b''
         if not text or not self._writes(text):
             return False
         self.clock.claimed()
@@ -196,8 +200,9 @@ class TimedGame(Game):
 
     def save_all(self) -> int:
         """Gives the clock the seconds that have passed, saves, and answers the count of inputs."""
-        is_due = self.due() > 0
-        if is_due and self.claim(self.count):
+        moment = self.moment()
+        is_due = self.due(moment) > 0
+        if is_due and self.claim(self.count, moment):
             self.seconds(self.clock.give())
         count = self.save()
         if not is_due:
