@@ -33,10 +33,11 @@ _gbkeep_known() {
         'gbkeep-script marks') options='--help:-' others='-h:-' operands='f' ;;
         'gbkeep-script play') options='--record:f --help:-' others='-h:-' operands='fff' ;;
         gbkeep-rest) options='--record:f --help:-' others='-h:-' operands='fff' ;;
-        gbkeep-movie) words='script bk2' options='--help:-' others='-h:-' ;;
+        gbkeep-movie) words='script friendly bk2' options='--help:-' others='-h:-' ;;
         'gbkeep-movie script') options='--help:-' others='-h:-' operands='f' ;;
+        'gbkeep-movie friendly') options='--help:-' others='-h:-' operands='f' ;;
         'gbkeep-movie bk2') options='--help:-' others='-h:-' operands='fff' ;;
-        gbkeep-film) options='--from:n --to:n --help:-' others='-h:-' operands='fff' ;;
+        gbkeep-film) options='--from:n --to:n --inputs:- --help:-' others='-h:-' operands='fff' ;;
         gbkeep-branch) options='--help:-' others='-h:-' operands='ffnff' ;;
         gbkeep-verify) options='--help:-' others='-h:-' operands='fff' ;;
         gbkeep-png) options='--help:-' others='-h:-' operands='ff' ;;

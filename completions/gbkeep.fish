@@ -187,10 +187,16 @@ function __gbkeep_known
         case 'gbkeep-movie'
             printf '%s\t%s\t%s\t%s\n' \
                 'w' 'script' '' 'prints a script of gbkeep\'s with the frames of MOVIE: a BizHawk movie (.bk2) or a VisualBoyAdvance movie (.vbm)' \
-                'w' 'bk2' '' 'writes the frames of a script (see gbkeep-script) as a BizHawk movie, which must not exist' \
+                'w' 'friendly' '' 'prints a friendly one (see gbkeep-script), with marks, author, comments and count of rerecords' \
+                'w' 'bk2' '' 'writes the frames of a script as a BizHawk movie, which must not exist, with all of these' \
                 'o' '--help' '-' 'tells its help' \
                 's' '-h' '-' 'tells its help'
         case 'gbkeep-movie script'
+            printf '%s\t%s\t%s\t%s\n' \
+                'o' '--help' '-' 'tells its help' \
+                's' '-h' '-' 'tells its help' \
+                'p' 'f' '' ''
+        case 'gbkeep-movie friendly'
             printf '%s\t%s\t%s\t%s\n' \
                 'o' '--help' '-' 'tells its help' \
                 's' '-h' '-' 'tells its help' \
@@ -204,6 +210,7 @@ function __gbkeep_known
             printf '%s\t%s\t%s\t%s\n' \
                 'o' '--from' 'n' '' \
                 'o' '--to' 'n' '' \
+                'o' '--inputs' '-' 'draws the buttons and counters below each picture' \
                 'o' '--help' '-' 'tells its help' \
                 's' '-h' '-' 'tells its help' \
                 'p' 'fff' '' ''

@@ -53,7 +53,7 @@ TYPED = [
     ('gbkeep-script play --', {'--record', '--help'}),
     ('gbkeep-script play --record x.recording x.gb x.gbkeep ', FILES),
     ('gbkeep-rest --r', {'--record'}),
-    ('gbkeep-movie ', {'script', 'bk2'}),
+    ('gbkeep-movie ', {'script', 'friendly', 'bk2'}),
     ('gbkeep-movie bk2 x.gb x.recording ', FILES),
     ('gbkeep-movie script x.bk2 ', NOTHING),
     ('gbkeep-film --f', {'--from'}),

@@ -101,7 +101,7 @@ def main(words: list[str]) -> None:
     parser = Words(prog=name_of_tool(), description='Writes the pictures of a script as a film.', epilog=__doc__, formatter_class=argparse.RawDescriptionHelpFormatter)
     parser.add_argument('--from', dest='first', type=count_word(1, MOST_FRAME, '--from'), default=1, metavar='N')
     parser.add_argument('--to', dest='last', type=count_word(1, MOST_FRAME, '--to'), metavar='N')
-    parser.add_argument('--inputs', action='store_true')
+    parser.add_argument('--inputs', action='store_true', help='draws the buttons and counters below each picture')
     parser.add_argument('cart', metavar='CART')
     parser.add_argument('script', metavar='SCRIPT')
     parser.add_argument('out', metavar='OUT')

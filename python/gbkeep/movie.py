@@ -1,15 +1,15 @@
 """Turns movies of other emulators into scripts, and a script into a movie.
 
 usage: gbkeep-movie script MOVIE            prints a script of gbkeep's with the frames of MOVIE: a BizHawk movie (.bk2) or a VisualBoyAdvance movie (.vbm)
-       gbkeep-movie friendly MOVIE          prints a friendly one (see gbkeep-script), which has the marks of MOVIE, too, and its author, comments and count of
-                                            rerecords, as `# author NAME`, `# comment TEXT` and `# rerecords N`
+       gbkeep-movie friendly MOVIE          prints a friendly one (see gbkeep-script), with marks, author, comments and count of rerecords
        gbkeep-movie bk2 SCRIPT MOVIE.bk2    writes the frames of a script as a BizHawk movie, which must not exist, with all of these
        gbkeep-movie bk2 CART RECORDING MOVIE.bk2
                                             writes those of a recording, with what RECORDING.notes has
 
 A movie is a list of buttons, a frame each, 2,500,000 at most; BizHawk's switch `Power` in a frame is `power` in front of it. What else it may have is refused
 by name: a start that is not power-on, a reset, a second player, another machine than the Game Boy. So is `seconds` in a script: a movie has no clock. `save`
-is left out. A recording's notes are lines of a text beside it, which the window writes, too, and which may be missing:
+is left out. Author, comments and count of rerecords stand in a friendly script as `# author NAME`, `# comment TEXT` and `# rerecords N`, each in a line
+of its own. A recording's notes are lines of a text beside it, which the window writes, too, and which may be missing:
 
     # notes of a recording of gbkeep
     author NAME
