@@ -3,4 +3,4 @@ use Rattle.embedding.proofs.game.Game.power.Goals as goal
 pub returns-clause-kept : goal.returns-clause-kept
 returns-clause-kept c =
     let is = c.power.ensures in
-    record { device = is.device; saved = is.saved; rom = is.kept.1.1; broken = is.kept.1.0; log = is.log.0; generation = is.log.1 }
+    record { device = is.device; saved = is.saved; rom = is.kept.2; broken = is.kept.1; log = is.log.0; generation = is.log.1 }

@@ -15,7 +15,7 @@ returns-in-Same-clause-answer c =
 pub returns-in-Same-clause-kept : goal.returns-in-Same-clause-kept
 returns-in-Same-clause-kept c =
     let is = c.restore.ensures in
-    record { device = is.device; saved = is.saved; rom = is.kept.1.1; broken = is.kept.1.0; log = is.log.0; generation = is.log.1 }
+    record { device = is.device; saved = is.saved; rom = is.kept.2; broken = is.kept.1; log = is.log.0; generation = is.log.1 }
 
 pub returns-in-Same-clause-machine : goal.returns-in-Same-clause-machine
 returns-in-Same-clause-machine c =
@@ -36,7 +36,7 @@ returns-in-Other-clause-answer c =
 pub returns-in-Other-clause-kept : goal.returns-in-Other-clause-kept
 returns-in-Other-clause-kept c =
     let is = c.restore-in-Other.ensures in
-    record { device = is.device; saved = is.saved; rom = is.kept.1.1; broken = is.kept.1.0; log = is.log.0; generation = is.log.1 }
+    record { device = is.device; saved = is.saved; rom = is.kept.2; broken = is.kept.1; log = is.log.0; generation = is.log.1 }
 
 pub returns-in-Other-clause-machine : goal.returns-in-Other-clause-machine
 returns-in-Other-clause-machine c =
@@ -69,7 +69,7 @@ returns-in-Nothing-clause-answer c =
 pub returns-in-Nothing-clause-kept : goal.returns-in-Nothing-clause-kept
 returns-in-Nothing-clause-kept c =
     let is = c.restore-in-Nothing.ensures in
-    record { device = is.device; saved = is.saved; rom = is.kept.1.1; broken = is.kept.1.0; log = is.log.0; generation = is.log.1 }
+    record { device = is.device; saved = is.saved; rom = is.kept.2; broken = is.kept.1; log = is.log.0; generation = is.log.1 }
 
 pub returns-in-Nothing-clause-machine : goal.returns-in-Nothing-clause-machine
 returns-in-Nothing-clause-machine c =
