@@ -97,7 +97,7 @@ def files(built: Optional[object] = 'bin', lib: str = 'lib', prefix: str = '/usr
     found += [one(PROGRAM, f'share/zsh/{zsh}/_gbkeep', 'completions/_gbkeep')]
     for name, module in tools().items():
         found += tool(name, module)
-    found += [one(PYTHON, f'{modules}/{path.relative_to(SOURCES)}', path) for path in sorted([*(SOURCES / 'gbkeep').rglob('*.py'), SOURCES / 'gbkeep/py.typed'])]
+    found += [one(PYTHON, f'{modules}/{path.relative_to(SOURCES)}', path) for path in sorted([*(SOURCES / 'gbkeep').rglob('*.py'), SOURCES / 'gbkeep/py.typed', SOURCES / 'gbkeep/messages.json'])]
     if modules == ALONE:
         found += [one(PYTHON, f'{ALONE}/gbkeep_launcher.py', 'packaging/launcher.py')]
     found += [File(WINDOW, 'share/applications/gbkeep.desktop', desktop_entry(prefix if modules == ALONE else '').encode()),

@@ -74,7 +74,7 @@ class GoingBack:
         while self.past and self.past[-1].packed == now.packed:
             self.past.pop()
         if not self.past:
-            play.say(words.WAITS_NOT)
+            play.say(words.said('nothing to go back to'))
             return None
         while True:
             if self.past:
@@ -91,7 +91,7 @@ class GoingBack:
         if game.command != 'record':
             self.go_on(play, game, passed[-1], now)
             return None
-        if play.ask(words.branch_here()):
+        if play.ask(words.asked('branch here')):
             self.past.append(passed[-1])
             return passed[-1]
         self.past.extend(reversed(passed))
@@ -117,26 +117,26 @@ class GoingBack:
         if stays(play, game):
             return
         game.save_all()
-        if not play.ask(words.reset()):
+        if not play.ask(words.asked('reset')):
             return
         before = Moment(game, play.shades)
         game.power()
         self.before = before
         play.show(game.picture().shades)
-        play.say(words.WAS_RESET)
+        play.say(words.said('reset'))
 
     def undo(self, play: Held, game: Played) -> None:
         if stays(play, game):
             return
         if self.before is None:
-            play.say(words.NOTHING_TO_UNDO)
+            play.say(words.said('nothing to undo'))
             return
         self.go_on(play, game, self.before, Moment(game, play.shades))
-        play.say(words.UNDONE)
+        play.say(words.said('undone'))
 
 
 def stays(play: Held, game: Played) -> bool:
     """Whether a game is recorded, and so does not go back; the play says so."""
     if game.command == 'record':
-        play.say(words.RECORDED, WARNING_SECONDS)
+        play.say(words.said('recorded'), WARNING_SECONDS)
     return game.command == 'record'

@@ -186,10 +186,10 @@ def test_rewind():
     """A key that is held goes back four frames at a time, and one input of the game follows when it is let go; it can be undone."""
     done, said, game = played({40: [('Rewind', 3)], 50: [('Undo', 0)]})
     expect('gone on with', done, [(40, 'go on', 24, 7), (50, 'go on', 40, 7)])
-    expect('said', said, ['Back by 0.1 s', 'Back by 0.2 s', 'Back by 0.3 s', words.UNDONE])
+    expect('said', said, ['Back by 0.1 s', 'Back by 0.2 s', 'Back by 0.3 s', words.said('undone')])
     expect('an input each', game.count, 62)
     done, said, game = played({2: [('Rewind', 9)], 9: [('Rewind', 9)], 20: [('Rewind', 0)]})
-    expect('a beginning', (done, said[:3]), ([(9, 'go on', 4, 7), (20, 'go on', 11, 7)], [words.WAITS_NOT, 'Back by 0.1 s', 'Back by 0.1 s, as far as it goes']))
+    expect('a beginning', (done, said[:3]), ([(9, 'go on', 4, 7), (20, 'go on', 11, 7)], [words.said('nothing to go back to'), 'Back by 0.1 s', 'Back by 0.1 s, as far as it goes']))
 
 
 def test_a_play_that_is_closed_goes_back_nowhere():
@@ -227,7 +227,7 @@ def test_a_load_is_undone():
 def test_reset():
     """The power switch is asked for, and can be undone."""
     done, said, _ = played({10: [('Reset', 0)], 20: [('Reset', 0)], 30: [('Undo', 0)]}, answers=[False, True])
-    expect('once', (done, said), ([(20, 'power'), (30, 'go on', 20, 7)], [words.WAS_RESET, words.UNDONE]))
+    expect('once', (done, said), ([(20, 'power'), (30, 'go on', 20, 7)], [words.said('reset'), words.said('undone')]))
 
 
 def test_next_frame():
@@ -255,7 +255,7 @@ def test_next_frame():
 
 def test_a_recorded_game_goes_on():
     done, said, _ = played({24: [('Reset', 0)], 26: [('Undo', 0)]}, command='record')
-    expect('nothing but frames', (done, said), ([], [words.RECORDED] * 2))
+    expect('nothing but frames', (done, said), ([], [words.said('recorded')] * 2))
 
 
 def test_a_recorded_game_branches():
@@ -600,7 +600,7 @@ def test_words():
     now = time.mktime((2026, 3, 10, 12, 0, 0, 0, 0, -1))
     expect('when', [words.when(now - seconds, now) for seconds in (1, 30, 300, 7200, 86_400, 40 * 86_400)],
            ['just now', '30 s ago', '5 min ago', 'today, 10:00', 'yesterday, 12:00', '29 Jan 2026'])
-    expect('ago', [words.ago(seconds) for seconds in (0, 20, 600)], ['now', '20 s ago', '10 min ago'])
+    expect('ago', [words.ago(seconds) for seconds in (0, 20, 600)], ['just now', '20 s ago', '10 min ago'])
     stands = [words.Standing('G', 60, 60), words.Standing('G', 90, 60, 0.5), words.Standing('G', 90, 60, 7), words.Standing('G', 60, 60, is_paused=True),
               words.Standing('G', 90, 60, 1, 4.0, is_fast=True)]
     expect('below the title', [one.line() for one in stands], ['saved', 'saved 1 s ago', 'not saved for 7 s', 'Paused: P goes on', 'saved 1 s ago, 400%'])

@@ -13,6 +13,7 @@ import signal
 import stat
 import subprocess
 import tarfile
+import threading
 import types
 import unittest.mock
 import zlib
@@ -1095,10 +1096,13 @@ def test_the_timeline_of_a_recording(room):
 def test_a_long_timeline_is_thinned(room):
     """What a recording's moments take is bounded: where there is no room, half of them go, evenly."""
     line = RecordedTimeline.__new__(RecordedTimeline)
-    line.most, line.moments = 10_000, [Stamped(bytes(100), 600 * at, 0, 600 * at) for at in range(100)]
-    expect('half of them', [one.count for one in line.thinned()], list(range(0, 60_000, 1200)))
+    moments = [Stamped(bytes(100), 600 * at, 0, 600 * at) for at in range(100)]
+    later = Stamped(b'', 61_000, 0, 61_000)
+    line.most, line.lock, line.moments = 10_000, threading.Lock(), [*moments, later]
+    kept = line.thinned(moments)
+    expect('half of them', ([one.count for one in kept], line.moments == [*kept, later]), (list(range(0, 60_000, 1200)), True))
     line.most = 100_000
-    expect('and where there is room, all', len(line.thinned()), 50)
+    expect('and where there is room, all', line.thinned(moments) == moments, True)
 
 
 def test_batteries(room):

@@ -7,6 +7,7 @@ from dataclasses import dataclass
 from typing import Optional
 
 from ..input_files import PathLike, WrongInput, printable, read_text
+from .words import MESSAGES
 
 # a gamepad's buttons, by Linux's codes: as a standard pad has them
 SOUTH, EAST, SELECT, START = 0x130, 0x131, 0x13a, 0x13b
@@ -17,29 +18,33 @@ GAME, PLAY, STATES, VIEW = 'Game', 'Play', 'Save states', 'Window'
 
 @dataclass(frozen=True)
 class Action:
-    """What a key does: its name in a file of keys, what people call it, its keys and its button of a gamepad."""
+    """What a key does: its name in a file of keys, its keys and its button of a gamepad."""
     name: str
-    words: str
     group: str
     keys: tuple[str, ...]
     pad: Optional[int] = None
 
+    @property
+    def words(self) -> str:
+        """What people call it."""
+        return MESSAGES['actions'][self.name]
+
 
 # the buttons first, as bits 0 to 7; A and B lie on a gamepad as on a Game Boy
 ACTIONS = (
-    Action('Right', 'Right', GAME, ('Right',), PAD_RIGHT), Action('Left', 'Left', GAME, ('Left',), PAD_LEFT),
-    Action('Up', 'Up', GAME, ('Up',), PAD_UP), Action('Down', 'Down', GAME, ('Down',), PAD_DOWN),
-    Action('A', 'A', GAME, ('x',), EAST), Action('B', 'B', GAME, ('z',), SOUTH),
-    Action('Select', 'Select', GAME, ('BackSpace',), SELECT), Action('Start', 'Start', GAME, ('Return', 'KP_Enter'), START),
-    Action('Pause', 'Pause, and go on', PLAY, ('p',), STICK_RIGHT), Action('Next frame', 'Next frame', PLAY, ('n',)),
-    Action('Fast', 'Fast, while held', PLAY, ('Tab',), TRIGGER_RIGHT), Action('Stay fast', 'Fast, on and off', PLAY, ('g',), SHOULDER_RIGHT),
-    Action('Rewind', 'Rewind, while held', PLAY, ('r',), TRIGGER_LEFT), Action('Undo', 'Undo the last rewind, load or reset', PLAY, ('F8',)),
-    Action('Reset', 'Reset', PLAY, ('F3',)),
-    Action('Keep slot', 'Save to the chosen state', STATES, ('F5', 'F6')), Action('Go back', 'Load the chosen state', STATES, ('F9', 'F10')),
-    Action('Next state', 'Choose the next state', STATES, ('F7',)), Action('States', 'Show the save states', STATES, ('F4',)),
-    Action('Timeline', 'Timeline', STATES, ('t',)),
-    Action('Picture', 'Screenshot', VIEW, ('s',)), Action('Palette', 'Next palette', VIEW, ('F2',)), Action('Full screen', 'Full screen', VIEW, ('F11',)),
-    Action('Keys', 'Keyboard shortcuts', VIEW, ('F1',)), Action('Menu', 'Menu, and back from full screen', VIEW, ('Escape',), SHOULDER_LEFT))
+    Action('Right', GAME, ('Right',), PAD_RIGHT), Action('Left', GAME, ('Left',), PAD_LEFT),
+    Action('Up', GAME, ('Up',), PAD_UP), Action('Down', GAME, ('Down',), PAD_DOWN),
+    Action('A', GAME, ('x',), EAST), Action('B', GAME, ('z',), SOUTH),
+    Action('Select', GAME, ('BackSpace',), SELECT), Action('Start', GAME, ('Return', 'KP_Enter'), START),
+    Action('Pause', PLAY, ('p',), STICK_RIGHT), Action('Next frame', PLAY, ('n',)),
+    Action('Fast', PLAY, ('Tab',), TRIGGER_RIGHT), Action('Stay fast', PLAY, ('g',), SHOULDER_RIGHT),
+    Action('Rewind', PLAY, ('r',), TRIGGER_LEFT), Action('Undo', PLAY, ('F8',)),
+    Action('Reset', PLAY, ('F3',)),
+    Action('Keep slot', STATES, ('F5', 'F6')), Action('Go back', STATES, ('F9', 'F10')),
+    Action('Next state', STATES, ('F7',)), Action('States', STATES, ('F4',)),
+    Action('Timeline', STATES, ('t',)),
+    Action('Picture', VIEW, ('s',)), Action('Palette', VIEW, ('F2',)), Action('Full screen', VIEW, ('F11',)),
+    Action('Keys', VIEW, ('F1',)), Action('Menu', VIEW, ('Escape',), SHOULDER_LEFT))
 BY_NAME = {action.name: action for action in ACTIONS}
 BUTTONS = [action.name for action in ACTIONS[:8]]
 HELD = {*BUTTONS, 'Fast', 'Rewind'}

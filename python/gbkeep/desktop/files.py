@@ -84,7 +84,7 @@ class Files:
             face.show(game.picture().shades)
             if is_agreed or chosen.clock != 'ask':
                 return is_agreed or chosen.clock == 'give'
-            return face.ask(words.give_time(question))
+            return face.ask(words.asked('give time', text=question))
 
         game = TimedGame(self.cart, self.save, self.program, recording=self.recording, ask=ask)
         if game.notice:
@@ -98,18 +98,18 @@ class Files:
         game.save_all()
         game.close()
         save, recording = free_names(self.save, self.recording or '')
-        face.say(words.BRANCH_BEGINS)
+        face.say(words.said('branch begins'))
         try:
             branch(self.cart, self.recording or '', count, save, recording, self.program)
-            line = f'A branch: {short(save)}, recorded in {short(recording)}.'
+            line = words.said('branch', save=short(save), recording=short(recording))
             if self.has_clock:
                 SaveTime(save).write([(count, given_until)], must_be_new=True)
         except (Failed, WrongInput, WrongTime) as error:
-            line = f'There is no branch: {error}'
+            line = words.said('no branch', why=error)
         except Refused as refused:
-            line = f'There is no branch: {printable(refused.line.removeprefix("gbkeep: "))}'
+            line = words.said('no branch', why=printable(refused.line.removeprefix('gbkeep: ')))
         except OSError as error:
-            line = f'There is no branch: {reason(error)}'
+            line = words.said('no branch', why=reason(error))
         else:
             self.save, self.recording = save, recording
         game = self.open(face, chosen)
@@ -154,11 +154,11 @@ def leave_picture(face: Face, shades: bytes, title: str, chosen: Preferences) ->
         with new_file(path, must_be_new=True) as file:
             file.write(png_of(shades, WIDTH, HEIGHT, palette=b''.join(map(bytes, PALETTES[chosen.palette]))))
     except Unsafe as error:
-        face.say(f'No screenshot: {error}', WARNING_SECONDS)
+        face.say(words.said('no screenshot', why=error), WARNING_SECONDS)
     except OSError as error:
-        face.say(f'No screenshot: {printable(folder)}: {reason(error)}', WARNING_SECONDS)
+        face.say(words.said('no screenshot', why=f'{printable(folder)}: {reason(error)}'), WARNING_SECONDS)
     else:
-        face.say(f'Screenshot: {printable(path.name)}', 5, str(path))
+        face.say(words.said('screenshot', name=printable(path.name)), 5, str(path))
         return str(path)
     return None
 
@@ -169,34 +169,34 @@ def keep_state(face: Face, game: Played, files: Files, number: int, shades: byte
         game.save_all()
         before = slots.keep()
     except NotReplaced as error:
-        face.say(f'State {number} was not saved: {error}', WARNING_SECONDS)
+        face.say(words.said('state not saved', number=number, why=error), WARNING_SECONDS)
         return
     keep_picture(f'{slots.slot}.png', shades, files.save)
     if game.command == 'record':
-        face.say(f'Copied to {short(slots.slot)}, a game of its own. {words.RECORDED}', WARNING_SECONDS)
+        face.say(words.said('state copied', name=short(slots.slot), recorded=words.said('recorded')), WARNING_SECONDS)
     else:
-        face.say(f'State {number} saved.' + (f' The one before is {short(before)}.' if before else ''))
+        face.say(words.said('state saved', number=number) + (words.said('state before', name=short(before)) if before else ''))
 
 
 def load_state(face: Face, game: Played, files: Files, chosen: Preferences, number: int) -> Played:
     """The game of a state, or the one that goes on where there is none to go back to."""
     slots = files.slots(number)
     if game.command == 'record':
-        face.say(words.RECORDED, WARNING_SECONDS)
+        face.say(words.said('recorded'), WARNING_SECONDS)
         return game
     if not os.path.lexists(slots.slot):
-        face.say(f'State {number} is empty.')
+        face.say(words.said('state empty', number=number))
         return game
     game.save_all()
     try:
         with slots.left() as left:
             game.close()
-            before, said, seconds = slots.go_back(left), f'State {number} loaded.', LINE_SECONDS
+            before, line, seconds = slots.go_back(left), words.said('state loaded', number=number), LINE_SECONDS
     except NotReplaced as error:
         game.close()
-        before, said, seconds = None, f'State {number} was not loaded: {error}', WARNING_SECONDS
+        before, line, seconds = None, words.said('state not loaded', number=number, why=error), WARNING_SECONDS
     game = files.open(face, chosen)
-    face.say(said + (f' The game before is {short(before)}.' if before else ''), seconds)
+    face.say(line + (words.said('game before', name=short(before)) if before else ''), seconds)
     return game
 
 
@@ -279,7 +279,7 @@ def with_recording(face: Face, save: str) -> tuple[Optional[str], bool]:
     if not os.path.exists(recording):
         raise WrongInput(f'{short(save)} is a recorded game, and its recording {printable(recording) or "has no name"} is not there: put it back, or name it '
                          f'by --record; to end the recording, take {short(os.path.realpath(save))}.recorded away')
-    return recording, bool(face.ask(words.play_recorded(printable(recording))))
+    return recording, bool(face.ask(words.asked('play recorded', recording=printable(recording))))
 
 
 def battery_time(battery: str, cart: str, program: str) -> Optional[int]:
@@ -301,7 +301,7 @@ def take_battery(face: Face, battery: str, cart: str, save: str, program: str) -
     with free_name(save):
         run(program, 'import', cart, battery, save)
     written = battery_time(battery, cart, program)
-    agreed = written is not None and bool(face.ask(words.give_time(
+    agreed = written is not None and bool(face.ask(words.asked('give time', text=
         f'{short(battery)} was written {span(int(time.time()) - written)} ago, on {time.strftime("%Y-%m-%d at %H:%M", time.localtime(written))}.')))
     if header_of(cart, program).has_clock():
         SaveTime(save).write([(0, written if agreed and written is not None else int(time.time()))])

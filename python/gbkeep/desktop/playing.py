@@ -151,7 +151,7 @@ class Play(threading.Thread):
         if welcome:
             self.say(welcome, WARNING_SECONDS)
         elif is_new:
-            self.say(words.KEYS_HINT, 5)
+            self.say(words.said('keys hint'), 5)
         if self.asked.save and battery_name(self.asked.save):
             line = battery_name(self.asked.save) or ''
             self.say(f'{line[:1].upper()}{line[1:]}.', WARNING_SECONDS)
@@ -172,7 +172,7 @@ class Play(threading.Thread):
                 abandon(game)
                 game = files.open(self, self.chosen)
                 self.take_up(game)
-                self.say(words.GOES_ON_AGAIN, WARNING_SECONDS)
+                self.say(words.said('goes on again'), WARNING_SECONDS)
         mark.remove()
         self.leave(game)
 
@@ -198,7 +198,7 @@ class Play(threading.Thread):
         save, battery, recording, is_agreed = asked.save, asked.battery, asked.recording, False
         if save and Path(save).suffix.lower() in intake.BATTERIES and os.path.isfile(save) and intake.look(save).kind == intake.BATTERY:
             # a battery file in the place of a save file: a game is begun with it
-            if not self.ask(words.begin_with(short(save), self.title)):
+            if not self.ask(words.asked('begin with', battery=short(save), title=self.title)):
                 return None, False
             battery, save = save, None
         if save is None:
@@ -209,7 +209,7 @@ class Play(threading.Thread):
             put_aside(cart, save, self.program)
         beside = intake.battery_beside(cart, save) if not battery and not recording and not asked.is_anew else None
         if beside:
-            answer = self.ask(words.begin_with(short(beside), self.title))
+            answer = self.ask(words.asked('begin with', battery=short(beside), title=self.title))
             if answer is None:
                 return None, False
             battery = beside if answer else None
@@ -293,7 +293,7 @@ class Play(threading.Thread):
                 self.due, self.speed = time.monotonic(), Speed()
             if game.trouble != told:
                 before, told = told or '', game.trouble
-                line = told or (words.CLOCK_GOES_ON if 'clock' in before else words.SAVED_AGAIN)
+                line = told or (words.said('clock goes on') if 'clock' in before else words.said('saved again'))
                 self.say(line if line.endswith('.') else f'{line[:1].upper()}{line[1:]}.', WARNING_SECONDS)
             if steering.is_closed:
                 break
@@ -371,9 +371,9 @@ class Play(threading.Thread):
     def go_to(self, game: Played, moment: Stamped) -> Optional[Moment]:
         """Goes on from a moment of the timeline; of a recorded game it answers that moment where the player agrees to a branch."""
         if game.command == 'record':
-            return moment if self.ask(words.branch_here()) else None
+            return moment if self.ask(words.asked('branch here')) else None
         self.going_back.go_on(self, game, moment, Moment(game, self.shades))
-        self.say('The game goes on from there. Undo brings it back.')
+        self.say(words.said('goes on from there'))
         return None
 
     def take_out(self, game: Played, path: str, is_battery: bool) -> None:
@@ -386,7 +386,7 @@ class Play(threading.Thread):
             told = told_of(error, files.cart, files.save, files.recording)
             self.tell(told)
         else:
-            self.say(f'{printable(Path(path).name)} was made.', WARNING_SECONDS, path)
+            self.say(words.said('made', name=printable(Path(path).name)), WARNING_SECONDS, path)
 
 
 def abandon(game: Played) -> None:

@@ -129,15 +129,18 @@ class RecordedTimeline(Timeline):
         with self.lock:
             self.moments.remove(moment)
 
-    def thinned(self) -> list[Stamped]:
+    def thinned(self, moments: list[Stamped]) -> list[Stamped]:
         """Half of the moments, those that lie closest together gone, where all of them take too much."""
-        if sum(len(one.packed) for one in self.moments) > self.most // 2:
-            step, kept = 2 * self.moments[-1].count // len(self.moments), self.moments[:1]
-            for one in self.moments:
+        if sum(len(one.packed) for one in moments) > self.most // 2:
+            step, kept = 2 * moments[-1].count // len(moments), moments[:1]
+            for one in moments:
                 if one.count - kept[-1].count >= step:
                     kept.append(one)
-            self.moments = kept
-        return list(self.moments)
+            gone = {*map(id, moments)} - {*map(id, kept)}
+            with self.lock:
+                self.moments = [one for one in self.moments if id(one) not in gone]
+            return kept
+        return moments
 
     def moment_before(self, count: int) -> Optional[Stamped]:
         """The last moment that has no more inputs."""

@@ -10,6 +10,7 @@ from ..slots import NotReplaced, short
 from ..timed_game import WrongTime
 from ..tools import Failed
 from .actions import WrongKeys
+from .words import MESSAGES
 
 
 @dataclass(frozen=True)
@@ -29,31 +30,6 @@ class Stopped(Exception):
     def __init__(self, told: Told):
         super().__init__(told.head)
         self.told = told
-
-
-# of the program's lines: what happened, and the rest, where CART, SAVE and RECORDING stand for names, and N and M for the numbers of the line
-PROGRAM = (
-    (r'rom length ([0-9]+)', 'CART is no whole Game Boy game', 'A cartridge has 32 KiB, or that times 2, 4 and so on, up to 8 MiB. This file has N bytes. Take a complete copy of it.'),
-    (r'cartridge type ([0-9A-F]{2})', 'CART can\'t be played here', 'Its cartridge has a part that this emulator does not have (type N), as a camera or a sensor. Choose another game.'),
-    (r'ram code [0-9A-F]{2}', 'CART is damaged', 'It asks for memory that no cartridge has. Take a complete copy of it.'),
-    (r'too many banks [0-9]+', 'CART was altered', 'It is larger than its cartridge can be. Take another copy of it.'),
-    (r'no memory', 'There is no memory left', 'What was saved stays saved. End other programs, and open the game again.'),
-    (r'device size ([0-9]+)', 'SAVE is no whole save file', 'It has N bytes, and was cut short, or it is another kind of file. Take a backup of it: SAVE.before, a state, or a copy.'),
-    (r'too small, [0-9]+ sectors needed', 'SAVE was cut short', 'Part of the game is missing in it. Take a backup of it: SAVE.before, a state, or a copy.'),
-    (r'no battery', 'CART keeps nothing', 'Its cartridge has no battery, so there is nothing to begin with. Open it without the file.'),
-    (r'battery length ([0-9]+), ([0-9]+) needed', 'The battery file is of another game', 'It has N bytes, and CART keeps M. Choose the file of this game.'),
-    (r'no session', 'SAVE is no save file of gbkeep', 'If it is a battery file of another emulator, open it together with its cartridge, and a game begins with it.'),
-    (r'other cartridge', 'SAVE is of another game', 'It was begun with another cartridge than CART, or with another version of it. Open that one.'),
-    (r'damaged (?:count|snapshot|entry [0-9]+)', 'SAVE is damaged', 'Nothing was written to it. Take a backup of it: SAVE.before, a state, or a copy.'),
-    (r'no recording', 'RECORDING is no recording', 'Name the one that belongs to the game.'),
-    (r'recording behind, ([0-9]+) inputs', 'The recording lags behind the game', 'RECORDING lacks inputs that SAVE has: something else has played it. Take the recording that belongs to it.'),
-    (r'recording ahead, ([0-9]+) inputs', 'The recording is ahead of the game', 'RECORDING has inputs that SAVE lacks. Take the two files that belong together.'),
-    (r'(?:machines differ|other recording)', 'The recording is of another play', 'RECORDING does not lead to the game in SAVE. Take the two files that belong together.'),
-    (r'recorded game: play it by record', 'SAVE is a recorded game', 'It is played together with its recording alone.'),
-    (r'recording full', 'The recording is full', 'What was saved stays saved. Lengthen it by `truncate -s +1M RECORDING`, and go on.'),
-    (r'a word is not text', 'The name of a file can\'t be used', 'It has letters that are no text here. Give the file another name.'),
-    (r'the program ended with status .*', 'The program that keeps the game was ended', 'What was saved stays saved. Open the game again.'),
-)
 
 
 def told_of(error: BaseException, cart: Optional[object] = None, save: Optional[object] = None, recording: Optional[object] = None, line: str = '') -> Told:
@@ -88,7 +64,8 @@ def of_program(refused: Refused, names: dict[str, str], paths: dict[str, object]
         return of_device(refused, names, paths)
     if line == 'file failed':
         return Told(named('CART can\'t be read'), f'{printable(paths["CART"])} is missing, no plain file, or may not be read. Choose it again.', refused.told())
-    for pattern, head, body in PROGRAM:
+    # of its lines: what happened, and the rest, where CART, SAVE and RECORDING stand for names, and N and M for the numbers of the line
+    for pattern, head, body in MESSAGES['refused']:
         found = re.fullmatch(pattern, line)
         if found:
             return Told(named(head), named(body, found.groups()), refused.told())

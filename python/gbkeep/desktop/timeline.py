@@ -76,7 +76,8 @@ class Timeline:
         # frames up to where the game was opened, and since
         self.cart, self.before, self.since, self.last, self.time = cart, 0, 0, 0, float('-inf')
         self.unwritten: list[Stamped] = []
-        self.lock = threading.Lock()
+        # who writes the file, which may take long, and who looks at the moments
+        self.writing, self.lock = threading.Lock(), threading.Lock()
         self.path = self.place(save)
 
     def place(self, save: str) -> Optional[Path]:
@@ -115,14 +116,16 @@ class Timeline:
         return Moment(game, shades).packed
 
     def keep(self, moment: Stamped) -> None:
-        self.moments.append(moment)
-        self.unwritten.append(moment)
+        with self.lock:
+            self.moments.append(moment)
+            self.unwritten.append(moment)
         threading.Thread(target=self.write, daemon=True).start()
 
     def write(self) -> None:
         """Adds the moments that are not there yet to the file; one that has become too long, or is of another cartridge, is written anew."""
-        with self.lock, contextlib.suppress(OSError, Unsafe, WrongInput):
-            more, self.unwritten = self.unwritten, []
+        with self.writing, contextlib.suppress(OSError, Unsafe, WrongInput):
+            with self.lock:
+                more, self.unwritten, moments = self.unwritten, [], list(self.moments)
             if self.path is None or not more:
                 return
             if not self.beside:
@@ -130,7 +133,7 @@ class Timeline:
             data = b''.join(one.record() for one in more)
             if not self.path.exists() or not self.is_added(data):
                 with new_file(self.path, begins=(HEAD,), save=self.beside) as file:
-                    file.write(HEAD + self.cart + b''.join(one.record() for one in self.thinned()))
+                    file.write(HEAD + self.cart + b''.join(one.record() for one in self.thinned(moments)))
 
     def is_added(self, data: bytes) -> bool:
         """Whether the file is of this cartridge and had room for this, which it then has."""
@@ -142,9 +145,9 @@ class Timeline:
             file.seek(size)
             return file.write(data) == len(data)
 
-    def thinned(self) -> list[Stamped]:
+    def thinned(self, moments: list[Stamped]) -> list[Stamped]:
         """The moments that stay where there is no room for all."""
-        return list(self.moments)[-MOST_MOMENTS // 2:]
+        return moments[-MOST_MOMENTS // 2:]
 
     def shown(self) -> list[tuple[Stamped, float]]:
         """The moments, the oldest first, each with how many seconds of play it lies behind."""

@@ -46,12 +46,12 @@ class Home(Gtk.Box):
                                 max_children_per_line=MOST_IN_A_LINE, valign=Gtk.Align.START, halign=Gtk.Align.CENTER, margin_top=24, margin_bottom=12, margin_start=18, margin_end=18)
         inner = Gtk.Box(orientation=Gtk.Orientation.VERTICAL)
         inner.append(self.flow)
-        inner.append(Gtk.Label(label=words.HINT, css_classes=['dim-label', 'caption'], wrap=True, justify=Gtk.Justification.CENTER, margin_start=18, margin_end=18,
+        inner.append(Gtk.Label(label=words.said('hint'), css_classes=['dim-label', 'caption'], wrap=True, justify=Gtk.Justification.CENTER, margin_start=18, margin_end=18,
                                margin_bottom=18))
         self.stack.add_named(Gtk.ScrolledWindow(child=inner, hscrollbar_policy=Gtk.PolicyType.NEVER), 'games')
 
     def empty_page(self) -> Gtk.Widget:
-        page = Adw.StatusPage(icon_name='gbkeep', title='gbkeep', description=f'{words.CLAIM}\n\n{words.EMPTY}')
+        page = Adw.StatusPage(icon_name='gbkeep', title='gbkeep', description=words.said('claim') + '\n\n' + words.said('empty'))
         row = Gtk.Box(spacing=12, halign=Gtk.Align.CENTER)
         row.append(Gtk.Button(label='Open a game', action_name='win.open', css_classes=['pill', 'suggested-action']))
         if demo_cart():

@@ -38,8 +38,8 @@ class TimelineWindow(Adw.Window):
         for moment, seconds in timeline.shown():
             store.append(Item(moment, clock(moment.frames) if recorded else ago(seconds)))
         if not (recorded.is_known if recorded else store.get_n_items()):
-            box.append(Adw.StatusPage(icon_name='document-open-recent-symbolic', title='There is nothing yet', vexpand=True, description=words.NO_MOMENTS if not recorded else
-                                      words.RECORDING_UNREAD if recorded.is_read.is_set() else words.READS_RECORDING))
+            box.append(Adw.StatusPage(icon_name='document-open-recent-symbolic', title='There is nothing yet', vexpand=True, description=words.said('no moments') if not recorded else
+                                      words.said('recording unread') if recorded.is_read.is_set() else words.said('recording is read')))
             return
         self.screen = Screen()
         self.screen.look(palette, False)

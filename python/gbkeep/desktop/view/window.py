@@ -419,7 +419,7 @@ class MainWindow(Adw.ApplicationWindow):
 
     def play_entry(self, entry: Entry) -> None:
         if not os.path.exists(entry.cart):
-            self.dialogs.ask(words.where_is(printable(entry.cart)), if_yes(lambda: self.find_cart(entry)))
+            self.dialogs.ask(words.asked('where is', cart=printable(entry.cart)), if_yes(lambda: self.find_cart(entry)))
             return
         self.begin(self.asked_for(entry))
 
@@ -460,9 +460,9 @@ class MainWindow(Adw.ApplicationWindow):
         play = if_yes(lambda: self.begin(asked))
         if plan.battery and os.path.lexists(save):
             asked = replace(asked, save=save, is_anew=True)
-            self.dialogs.ask(words.new_with_battery(title, printable(Path(plan.battery).name)), play)
+            self.dialogs.ask(words.asked('new with battery', title=title, battery=printable(Path(plan.battery).name)), play)
         elif self.play is not None:
-            self.dialogs.ask(words.play_instead(title, self.get_title() or ''), play)
+            self.dialogs.ask(words.asked('play instead', title=title, played=self.get_title() or ''), play)
         else:
             self.begin(asked)
 
@@ -470,15 +470,14 @@ class MainWindow(Adw.ApplicationWindow):
         def found(paths: list[str]) -> None:
             self.take([paths[0], missing.save])
 
-        self.dialogs.ask(Question(f'Where is the cartridge of {printable(Path(missing.save).name)}?', 'A save file holds the game alone. Choose the cartridge (.gb) that it '
-                                  'was begun with.', 'Choose the file'), if_yes(lambda: self.choose_files('The cartridge', found, intake.CARTS + ('.zip',))))
+        self.dialogs.ask(words.asked('where is the cartridge', save=printable(Path(missing.save).name)), if_yes(lambda: self.choose_files('The cartridge', found, intake.CARTS + ('.zip',))))
 
     def card_act(self, name: str, entry: Entry) -> None:
         """What the menu of a card does."""
         if name == 'play':
             self.play_entry(entry)
         elif name == 'anew':
-            self.dialogs.ask(words.start_over(entry.name), if_yes(lambda: self.begin(Asked(entry.cart, entry.save, is_anew=True))))
+            self.dialogs.ask(words.asked('start over', title=entry.name), if_yes(lambda: self.begin(Asked(entry.cart, entry.save, is_anew=True))))
         elif name == 'battery':
             self.choose_files('A battery file', lambda paths: self.begin(Asked(entry.cart, entry.save, battery=paths[0], is_anew=True)), intake.BATTERIES)
         elif name == 'earlier':
@@ -489,7 +488,7 @@ class MainWindow(Adw.ApplicationWindow):
         elif name == 'folder':
             Gtk.show_uri(self, Gio.File.new_for_path(os.path.dirname(entry.save)).get_uri(), Gdk.CURRENT_TIME)
         elif name == 'forget':
-            self.dialogs.ask(words.forget_game(entry.name), if_yes(lambda: self.shelf.remove(entry), self.home.fill))
+            self.dialogs.ask(words.asked('forget game', title=entry.name), if_yes(lambda: self.shelf.remove(entry), self.home.fill))
 
     def choose(self) -> None:
         self.choose_files('Open a game', self.take, intake.ENDINGS, True)
@@ -574,7 +573,7 @@ class MainWindow(Adw.ApplicationWindow):
     def state_act(self, window: StatesWindow, what: str, number: int) -> None:
         if what == 'delete':
             dialogs = Dialogs(window, lambda by: self.steering.wait(by))
-            dialogs.ask(words.delete_state(number), if_yes(lambda: delete_state(self.save, number), window.fill))
+            dialogs.ask(words.asked('delete state', True, number=number), if_yes(lambda: delete_state(self.save, number), window.fill))
             return
         window.close()
         self.chosen.state = number
@@ -601,7 +600,7 @@ class MainWindow(Adw.ApplicationWindow):
 
     def show_about(self) -> None:
         from ... import __version__
-        about = Adw.AboutWindow(transient_for=self, modal=True, application_name='gbkeep', application_icon='gbkeep', version=__version__, comments=words.CLAIM)
+        about = Adw.AboutWindow(transient_for=self, modal=True, application_name='gbkeep', application_icon='gbkeep', version=__version__, comments=words.said('claim'))
         self.show_side(about)
 
     def close_window(self) -> bool:
