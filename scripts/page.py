@@ -1,5 +1,5 @@
-"""What web/page has beside its sources, so that it is a site as it stands: the refusals of the library (faults.js), the demo (demo.gb), what is known of the
-module (made.js), and the list of the page's files (files.js). None of it needs the toolchain; the module itself is made by scripts/web.py.
+"""What web/page has beside its sources, so that it is a site as it stands: the refusals of the library (faults.js), the texts that the window has, too
+(messages.js), the demo (demo.gb), what is known of the module (made.js), and the list of the page's files (files.js). None of it needs the toolchain; the module itself is made by scripts/web.py.
 
 usage: page.py              makes them
        page.py check        status 1, and a line for each that is not as it is to be; notes where the module was made from other sources
@@ -18,10 +18,11 @@ from scripts.not_tried import note
 TOP = Path(__file__).resolve().parent.parent
 WEB, PAGE = TOP / 'web', TOP / 'web/page'
 CRATE = 'c_interface'
+MESSAGES = TOP / 'python/gbkeep/messages.json'
 DEMO = TOP / 'examples/demo/demo.gb'
 MODULE, OF, LIST = 'gbkeep.wasm.gz', 'gbkeep.wasm.of', 'files.js'
 # what this script makes, in this order: the list has the digests of the others
-MADE = ('demo.gb', 'faults.js', 'made.js', LIST)
+MADE = ('demo.gb', 'faults.js', 'messages.js', 'made.js', LIST)
 # what a page needs without a network is all but these
 NOT_LISTED = {'README', 'service_worker.js', OF, LIST}
 MOST_BYTES = 640_000
@@ -131,6 +132,13 @@ def faults():
     return subprocess.run([sys.executable, '-B', WEB / 'faults.py'], stdout=subprocess.PIPE, check=True).stdout
 
 
+def messages():
+    """The texts that the page shows as the window does."""
+    texts = json.loads(MESSAGES.read_text(encoding='utf-8'))
+    shown = json.dumps({kind: texts[kind] for kind in ('actions', 'said', 'asked')}, indent=2)
+    return f'// Made by scripts/page.py of python/gbkeep/messages.json: the texts of the window, of which the page shows some.\nexport const MESSAGES = {shown};\n'.encode()
+
+
 def about(folder):
     """What a page can tell of its module."""
     known = {'digest': digest(module_in(folder)), 'isOfSources': is_of_sources(folder)}
@@ -159,7 +167,7 @@ def list_files(folder):
 
 def wanted(name, folder):
     """The bytes of a made file."""
-    return {'demo.gb': DEMO.read_bytes, 'faults.js': faults, 'made.js': lambda: about(folder), LIST: lambda: list_of(folder)}[name]()
+    return {'demo.gb': DEMO.read_bytes, 'faults.js': faults, 'messages.js': messages, 'made.js': lambda: about(folder), LIST: lambda: list_of(folder)}[name]()
 
 
 def length(folder):

@@ -2,7 +2,7 @@
 import { $, button, icon, made } from './dom.js';
 import { leave } from './downloads.js';
 import { draw } from './picture.js';
-import { KEEPS, fileName, playedFor, sizeOf, when } from './words.js';
+import { KEEPS, asked, fileName, playedFor, sizeOf, when } from './words.js';
 
 const LOOK = 30000;
 
@@ -214,11 +214,7 @@ export class Home {
 
   /** @param {GameRow} row */
   async #startOver(row) {
-    const agrees = await this.#page.dialogs.ask({
-      text: `Start ${nameOf(row)} over?`,
-      more: 'A new game begins. The present one is kept: it stands in the menu of its card.',
-      yes: 'Start over',
-    });
+    const agrees = await this.#page.dialogs.ask(asked('start over', { title: nameOf(row) }));
     if (agrees) {
       await this.#page.playing.open({ id: row.id, anew: true });
     }

@@ -1,5 +1,7 @@
 // What keys and a gamepad's buttons do, and how that is changed: data and arithmetic alone.
 
+import { MESSAGES } from './messages.js';
+
 export const BUTTONS = ['Right', 'Left', 'Up', 'Down', 'A', 'B', 'Select', 'Start'];
 /** What is done for as long as a key is held. */
 const HELD = [...BUTTONS, 'Fast', 'Rewind'];
@@ -14,26 +16,26 @@ const HELD = [...BUTTONS, 'Fast', 'Rewind'];
  * @type {Row[]}
  */
 export const ROWS = [
-  { action: 'Up', means: 'Up', key: 'ArrowUp', pad: 12 },
-  { action: 'Down', means: 'Down', key: 'ArrowDown', pad: 13 },
-  { action: 'Left', means: 'Left', key: 'ArrowLeft', pad: 14 },
-  { action: 'Right', means: 'Right', key: 'ArrowRight', pad: 15 },
-  { action: 'A', means: 'A', key: 'KeyX', pad: 1 },
-  { action: 'B', means: 'B', key: 'KeyZ', pad: 0 },
-  { action: 'Start', means: 'Start', key: 'Enter', pad: 9 },
-  { action: 'Select', means: 'Select', key: 'Backspace', pad: 8 },
-  { action: 'Rewind', means: 'Rewind, while held', key: 'KeyR', pad: 6 },
-  { action: 'Fast', means: 'Fast, while held', key: 'KeyF', pad: 7 },
-  { action: 'Stay fast', means: 'Fast, on and off', key: 'KeyG', pad: 5 },
-  { action: 'Pause', means: 'Pause, and go on', key: 'KeyP', pad: 11 },
+  { action: 'Up', means: MESSAGES.actions.Up, key: 'ArrowUp', pad: 12 },
+  { action: 'Down', means: MESSAGES.actions.Down, key: 'ArrowDown', pad: 13 },
+  { action: 'Left', means: MESSAGES.actions.Left, key: 'ArrowLeft', pad: 14 },
+  { action: 'Right', means: MESSAGES.actions.Right, key: 'ArrowRight', pad: 15 },
+  { action: 'A', means: MESSAGES.actions.A, key: 'KeyX', pad: 1 },
+  { action: 'B', means: MESSAGES.actions.B, key: 'KeyZ', pad: 0 },
+  { action: 'Start', means: MESSAGES.actions.Start, key: 'Enter', pad: 9 },
+  { action: 'Select', means: MESSAGES.actions.Select, key: 'Backspace', pad: 8 },
+  { action: 'Rewind', means: MESSAGES.actions.Rewind, key: 'KeyR', pad: 6 },
+  { action: 'Fast', means: MESSAGES.actions.Fast, key: 'KeyF', pad: 7 },
+  { action: 'Stay fast', means: MESSAGES.actions['Stay fast'], key: 'KeyG', pad: 5 },
+  { action: 'Pause', means: MESSAGES.actions.Pause, key: 'KeyP', pad: 11 },
   { action: 'Menu', means: 'Menu', key: 'Escape', pad: 4 },
   { action: 'Save state', means: 'Save state 1', key: 'F5', pad: null },
   { action: 'Load state', means: 'Load state 1', key: 'F9', pad: null },
   { action: 'States', means: 'Save states', key: 'F7', pad: null },
-  { action: 'Timeline', means: 'Timeline', key: 'KeyT', pad: null },
-  { action: 'Full screen', means: 'Full screen', key: 'F11', pad: null },
-  { action: 'Palette', means: 'Next palette', key: 'F2', pad: null },
-  { action: 'Screenshot', means: 'Screenshot', key: 'KeyS', pad: null },
+  { action: 'Timeline', means: MESSAGES.actions.Timeline, key: 'KeyT', pad: null },
+  { action: 'Full screen', means: MESSAGES.actions['Full screen'], key: 'F11', pad: null },
+  { action: 'Palette', means: MESSAGES.actions.Palette, key: 'F2', pad: null },
+  { action: 'Screenshot', means: MESSAGES.actions.Picture, key: 'KeyS', pad: null },
   { action: 'Keys', means: 'Keys and gamepad', key: 'F1', pad: null },
 ];
 

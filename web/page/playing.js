@@ -6,7 +6,7 @@ import { PALETTES, pngOf } from './picture.js';
 import { Refused } from './refusals.js';
 import { noteOpen, remember } from './settings.js';
 import { isStill } from './state.js';
-import { fileName, rewoundBy, span, welcome } from './words.js';
+import { fileName, rewoundBy, said, span, welcome } from './words.js';
 
 const FRAMES_A_SECOND = 4194304 / 70224;
 // a second of play is about as many of the states that a game can be rewound to
@@ -174,7 +174,7 @@ export class Playing {
     });
     if (agrees && store.now.game) {
       this.shown(await client.ask('power'));
-      say('The game was reset.');
+      say(said('reset'));
     }
   }
 

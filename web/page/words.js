@@ -1,8 +1,34 @@
-// What the page says, but for refusals (refusals.js): short, and what people say.
+// What the page says, but for refusals (refusals.js): short, and what people say. What the window says, too, stands in messages.js.
+
+import { MESSAGES } from './messages.js';
 
 const MINUTE = 60;
 const HOUR = 3600;
 const DAY = 86400;
+
+/**
+ * A text with what is filled in.
+ * @param {string} text
+ * @param {Record<string, string | number>} given
+ */
+const filled = (text, given) => text.replace(/\{(\w+)\}/g, (_, word) => String(given[word]));
+
+/**
+ * @param {keyof typeof MESSAGES.said} name
+ * @param {Record<string, string | number>} given
+ */
+export const said = (name, given = {}) => filled(MESSAGES.said[name], given);
+
+/**
+ * A question, and what agrees to it.
+ * @param {keyof typeof MESSAGES.asked} name
+ * @param {Record<string, string | number>} given
+ * @returns {{ text: string, more: string, yes: string }}
+ */
+export function asked(name, given = {}) {
+  const { head, body, yes } = /** @type {{ head: string, body?: string, yes: string }} */ (MESSAGES.asked[name]);
+  return { text: filled(head, given), more: filled(body ?? '', given), yes };
+}
 
 /**
  * So many seconds of play, in short; less than a minute is nothing.
@@ -26,35 +52,29 @@ export function playedFor(seconds) {
  */
 export function when(time, now, locale) {
   const seconds = Math.floor((now - time) / 1000);
-  if (seconds < 5) {
-    return 'just now';
-  }
-  if (seconds < MINUTE) {
-    return `${seconds} s ago`;
-  }
   if (seconds < HOUR) {
-    return `${Math.floor(seconds / MINUTE)} min ago`;
+    return seconds < 5 ? said('just now') : before(seconds < MINUTE ? seconds : seconds - (seconds % MINUTE));
   }
   const clock = new Date(time).toLocaleTimeString(locale, { hour: 'numeric', minute: '2-digit' });
   const days = Math.round((new Date(now).setHours(0, 0, 0, 0) - new Date(time).setHours(0, 0, 0, 0)) / (DAY * 1000));
   if (days === 0) {
-    return `today, ${clock}`;
+    return said('today', { clock });
   }
   if (days === 1) {
-    return `yesterday, ${clock}`;
+    return said('yesterday', { clock });
   }
   return new Date(time).toLocaleDateString(locale, { day: 'numeric', month: 'short', year: 'numeric' });
 }
 
 /**
- * So many seconds of play before this moment, for the timeline.
+ * So many seconds before this moment.
  * @param {number} seconds
  */
 export function before(seconds) {
   if (seconds < 1) {
-    return 'just now';
+    return said('just now');
   }
-  return seconds < MINUTE ? `${Math.round(seconds)} s ago` : `${Math.round(seconds / MINUTE)} min ago`;
+  return seconds < MINUTE ? said('seconds ago', { count: Math.round(seconds) }) : said('minutes ago', { count: Math.round(seconds / MINUTE) });
 }
 
 /** @param {number} seconds */
@@ -80,16 +100,15 @@ export function standingLine({ keeps, isPaused, isWaiting, isTouch, isAllSaved, 
     return { text: isTouch ? 'Touch to go on' : 'Press a key to go on', kind: 'plain' };
   }
   if (isPaused) {
-    return { text: isTouch ? 'Paused' : `Paused: ${pauseKey} goes on`, kind: 'plain' };
+    return { text: isTouch ? said('paused') : said('paused, with its key', { key: pauseKey }), kind: 'plain' };
   }
   if (keeps === 'memory') {
     return { text: 'not kept', kind: 'loud' };
   }
   if (unsaved >= 5) {
-    return { text: `not saved for ${Math.floor(unsaved)} s`, kind: 'loud' };
+    return { text: said('not saved', { count: Math.floor(unsaved) }), kind: 'loud' };
   }
-  const seconds = Math.max(1, Math.floor(unsaved));
-  const saved = isAllSaved ? 'saved' : `saved ${seconds} s ago`;
+  const saved = isAllSaved ? said('saved') : said('saved before', { count: Math.max(1, Math.floor(unsaved)) });
   return keeps === 'window' ? { text: 'kept until this window is closed', kind: 'loud' } : { text: saved, kind: 'kept' };
 }
 
@@ -101,8 +120,7 @@ export function welcome(seconds) {
   if (seconds === null || seconds === undefined) {
     return null;
   }
-  const where = seconds < 0.05 ? 'where it was closed' : `${seconds.toFixed(1)} s before it was closed`;
-  return `Welcome back: the game goes on from ${where}.`;
+  return said('welcome', { where: seconds < 0.05 ? said('where it was closed') : said('before it was closed', { seconds: seconds.toFixed(1) }) });
 }
 
 /**
@@ -140,13 +158,13 @@ export function planOf({ cart, battery, save }, games, played) {
   const kept = 'The game that is there is kept: it stands in the menu of its card.';
   if (cart && battery) {
     return cart.isKnown
-      ? { what: 'begin', text: `Begin a new game of ${cart.title} with ${battery.name}?`, more: kept, yes: 'Begin new game' }
+      ? { what: 'begin', ...asked('new with battery', { title: cart.title, battery: battery.name }), more: kept }
       : { what: 'begin', text: '', more: '', yes: '' };
   }
   if (cart) {
     const what = save ? 'take in behind' : 'play';
     const text = `${cart.name} is ${cart.title || 'a game'}: play it?`;
-    return played === null ? { what, text: '', more: '', yes: '' } : { what, text, more: `${played} is saved, and can be continued.`, yes: 'Play' };
+    return played === null ? { what, text: '', more: '', yes: '' } : { what, ...asked('play instead', { title: '', played }), text };
   }
   if (save) {
     return save.id === null

@@ -62,7 +62,7 @@ def when(moment: float, now: float) -> str:
     """When something was, as seen from another moment; both in seconds since 1970."""
     seconds = int(now - moment)
     if seconds < HOUR:
-        return said('just now') if seconds < 5 else ago(seconds)
+        return said('just now') if seconds < 5 else ago(seconds if seconds < MINUTE else seconds - seconds % MINUTE)
     then, today = time.localtime(moment), time.localtime(now)
     clock = time.strftime('%H:%M', then)
     days = (time.mktime((*today[:3], 12, 0, 0, 0, 0, -1)) - time.mktime((*then[:3], 12, 0, 0, 0, 0, -1))) / DAY
@@ -75,7 +75,7 @@ def ago(seconds: float) -> str:
     """So many seconds before this moment."""
     if seconds < 1:
         return said('just now')
-    return said('seconds ago', count=round(seconds)) if seconds < MINUTE else said('minutes ago', count=int(seconds / MINUTE))
+    return said('seconds ago', count=round(seconds)) if seconds < MINUTE else said('minutes ago', count=round(seconds / MINUTE))
 
 
 def welcome(lost: Optional[float]) -> Optional[str]:
