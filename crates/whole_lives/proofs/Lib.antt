@@ -5,3 +5,4 @@ pub mod RoundLaws
 pub mod AloneLaws
 pub mod RecordedLaws
 pub mod CauseLaws
+pub mod FuseLaws

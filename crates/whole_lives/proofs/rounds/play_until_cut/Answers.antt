@@ -1,5 +1,6 @@
-use Rattle.std.proofs.Common.{true, sym, subst, true≢false}
+use Rattle.std.proofs.Common.{true, sym, subst, true≢false, refl}
 use Rattle.whole_lives.specs.Devices.{Memories, CountsCut, LeavesRound, memories}
+use Rattle.whole_lives.proofs.FuseLaws.{ended_by_fuse}
 use Rattle.whole_lives.proofs.rounds.play_until_cut.Goals as goal
 
 pub returns-in-Ok-clause-played : goal.returns-in-Ok-clause-played
@@ -11,3 +12,6 @@ returns-in-Ok-clause-played g c =
       counts = subst (CountsCut true old) (sym c.into_devices.ensures) gives.counts;
       blown = λ no. absurd (true≢false no);
     }
+
+pub returns-else-not-is_by_fuse-clause-played : goal.returns-else-not-is_by_fuse-clause-played
+returns-else-not-is_by_fuse-clause-played g c = ended_by_fuse c.in-Err.ensures.stops (c.if-not-is_by_fuse.ensures.yes refl)

@@ -1,0 +1,29 @@
+-- A round that a fuse ended was played up to there.
+use Rattle.std.proofs.Common.{inl, inr, ℕ, List, false, subst}
+use Rattle.whole_lives.specs.Lives.{Asking}
+use Rattle.whole_lives.specs.Devices.{Memories, CountsRefusal, CountsCut, LeavesRound, Refusing, IsPlayed, IsBlown}
+use Rattle.whole_lives.specs.Rounds.{StopsGiving, IsByFuse, IsFailedCall}
+use Rattle.whole_lives.specs.declared.error.LifeError.{LifeError}
+
+pub by_fuse_counts : (old left : Memories) (why : LifeError) → IsByFuse why left → CountsRefusal why old left → CountsCut false old left
+by_fuse_counts old left why (inl (is, blown)) counted = inl (subst (λ (w : LifeError). CountsRefusal w old left) is counted)
+by_fuse_counts old left why (inr (inl (is, blown))) counted = inl (subst (λ (w : LifeError). CountsRefusal w old left) is counted)
+by_fuse_counts old left why (inr (inr (is, blown))) counted = inr (subst (λ (w : LifeError). CountsRefusal w old left) is counted)
+
+pub by_fuse_failed : (left : Memories) (why : LifeError) → IsByFuse why left → IsFailedCall why
+by_fuse_failed left why (inl (is, blown)) = inl is
+by_fuse_failed left why (inr (inl (is, blown))) = inr (inl is)
+by_fuse_failed left why (inr (inr (is, blown))) = inr (inr is)
+
+pub by_fuse_blown : (left : Memories) (why : LifeError) → IsByFuse why left → IsBlown left
+by_fuse_blown left why (inl (is, blown)) = inl blown
+by_fuse_blown left why (inr (inl (is, blown))) = inl blown
+by_fuse_blown left why (inr (inr (is, blown))) = inr blown
+
+pub ended_by_fuse : {asks : Asking} {refuses : Refusing} {rom : List ℕ} {old left : Memories} {text report : List ℕ} {why : LifeError}
+    → StopsGiving asks refuses rom old left text report why → IsByFuse why left → IsPlayed asks rom old left text report false
+ended_by_fuse {asks} {refuses} {rom} {old} {left} {text} {report} {why} stops by_fuse = record {
+  leaves = subst (λ (front : List ℕ). LeavesRound asks rom old left text front false) (stops.whole (by_fuse_failed left why by_fuse)) stops.leaves;
+  counts = by_fuse_counts old left why by_fuse stops.refused.counted;
+  blown = λ whole. by_fuse_blown left why by_fuse;
+}
