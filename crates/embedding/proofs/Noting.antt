@@ -1,17 +1,16 @@
 -- A device with one call more noted, filled or handed out.
-use Rattle.std.proofs.Common.{◌≡◌, ◌<◌, ◌↔◌, ℕ, Bool, true, false, List, [], ◌∷◌, ◌++◌, append_assoc, length, replicate, set, refl, sym, ap, ◌∙◌, subst, Option, Some, None, Result, Ok, Err, length-set, lt-ltb, eq-eqb}
+use Rattle.std.proofs.Common.{◌≡◌, ◌<◌, ℕ, Bool, true, false, List, [], ◌∷◌, ◌++◌, append_assoc, length, replicate, set, refl, sym, ap, ◌∙◌, subst, Result, Ok, Err, length-set, lt-ltb, eq-eqb}
 use Rattle.std.specs.Prelude.{IsTrue, ◌&&◌}
 use Rattle.std.proofs.lemmas.List.{map-append, length-replicate}
-use Rattle.sector_device.specs.DiskState.{DiskState, Throughout, KeepsHonesty, HasWritten, HasSynced, HasHanded, Follows}
+use Rattle.sector_device.specs.DiskState.{DiskState, KeepsHonesty, HasWritten, HasSynced}
 use Rattle.sector_device.specs.Records.{replayed, recorded_disk, reads_after, is_sector, is_recordable, are_recordable}
 use Rattle.sector_device.specs.declared.recorded.Recorded.{Recorded}
 use Rattle.sector_device.specs.declared.recorded.Recorded.TheVariants as recorded
 use Rattle.sector_device.proofs.Record.{replays, wrote, synced, no_write}
 use Rattle.sector_device.proofs.Calls.{recordable_push}
 use Rattle.embedding.specs.Calls.{blank, made, recorded_of}
-use Rattle.embedding.specs.HostDevices.{HasHandedOut, calls_of, count_of, handed_of, host_disk, waiting_of}
+use Rattle.embedding.specs.HostDevices.{calls_of, count_of, handed_of, host_disk}
 use Rattle.embedding.specs.declared.host_device.Call.{Call}
-use Rattle.embedding.specs.declared.host_device.Call.TheVariants.{Write, Sync}
 use Rattle.embedding.specs.declared.host_device.HostDevice.{HostDevice}
 
 -- ---- the list of all calls

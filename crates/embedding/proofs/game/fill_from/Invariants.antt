@@ -1,4 +1,4 @@
-use Rattle.std.proofs.Common.{◌≡◌, ◌<◌, ◌+◌, ◌*◌, ℕ, [], length}
+use Rattle.std.proofs.Common.{◌≡◌, ◌<◌, ◌+◌, ◌*◌, ℕ, []}
 use Rattle.std.specs.Prelude.{slice_range}
 use Rattle.sector_device.specs.DiskState.{sector_at}
 use Rattle.embedding.specs.Calls.{image_writes}

@@ -1,4 +1,4 @@
-use Rattle.std.proofs.Common.{◌≡◌, ◌∙◌, ℕ, List, [], ap, subst}
+use Rattle.std.proofs.Common.{◌∙◌, ℕ, List, [], ap, subst}
 use Rattle.machine.specs.Machine.{start}
 use Rattle.session.specs.Accessors.{device_of}
 use Rattle.session.specs.Stands.{IsAtRest, Position}

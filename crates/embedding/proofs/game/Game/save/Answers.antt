@@ -1,4 +1,3 @@
-use Rattle.std.proofs.Common.{◌≡◌}
 use Rattle.session.proofs.Beginnings.{if_ok}
 use Rattle.session.specs.Accessors.{device_of}
 use Rattle.embedding.specs.HostDevices.{host_disk}

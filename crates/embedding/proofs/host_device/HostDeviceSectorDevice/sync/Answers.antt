@@ -1,4 +1,3 @@
-use Rattle.embedding.specs.HostDevices.{calls_of}
 use Rattle.std.proofs.Common.{ap, ◌∙◌, ◌++◌, List}
 use Rattle.sector_device.specs.declared.recorded.Recorded.{Recorded}
 use Rattle.embedding.specs.Calls.{recorded_of}
