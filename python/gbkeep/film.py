@@ -37,7 +37,7 @@ LUMA = bytes(16 + 73 * (shade & 3) for shade in range(256))
 BLACK, DIM, BRIGHT = 16, 72, 235
 # the signs of the lines below, five rows of three pixels: a digit for each row
 SIGNS = {'0': 0o75557, '1': 0o26227, '2': 0o71747, '3': 0o71717, '4': 0o55711, '5': 0o74717, '6': 0o74757, '7': 0o71111, '8': 0o75757, '9': 0o75717, ':': 0o02020,
-         'A': 0o25755, 'B': 0o65656, 'E': 0o74647, 'L': 0o44447, 'R': 0o65655, 'S': 0o34216, 'T': 0o72222, '>': 0o46764, '<': 0o13731, '^': 0o02577, 'v': 0o77520}
+         'A': 0o25755, 'B': 0o65656, 'E': 0o74647, 'L': 0o44447, 'R': 0o65655, 'S': 0o34216, 'T': 0o72222, '>': 0o46764, '<': 0o13731, '^': 0o02770, 'v': 0o07720}
 # the buttons as they are shown, with their bits
 SHOWN = (('<', 2), ('^', 4), ('v', 8), ('>', 1), ('  ', 0), ('B', 32), (' ', 0), ('A', 16), ('  ', 0), ('SEL', 64), (' ', 0), ('ST', 128))
 SIGN_WIDTH, LINE_HEIGHT = 8, 14

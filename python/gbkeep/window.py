@@ -12,7 +12,7 @@ SAVE is best called NAME.gbkeep: other emulators take NAME.sav and NAME.srm for 
     Tab, while it is held  fast; G keeps it on
     P, N                   pause, and on; the next frame in a pause, or a pause
     R, while it is held    goes back, up to a minute
-    T                      the timeline: pictures of the last hour, to go on from
+    T                      the timeline: pictures of the last hour, to go on from; of a recorded game any frame of it, and marks
     F5, F9                 saves the game to the chosen state, and loads it
     F7, F4                 the next of ten states; all of them, with pictures
     F8                     undoes the last R, T, F3, F9 or F8

@@ -295,7 +295,7 @@ def test_recorded(room):
         player.press(answer)
         player.until_gone('^Begin a branch here\\?$')
     player.until('^A branch: run-2.gbkeep, recorded in run-2.rec', 120)
-    player.until('frame [0-9,]+, 1 rerecords$')
+    player.until('frame [0-9,]+, 1 rerecord$')
     timeline(player, 'Begin a branch here')
     frame = int(re.search('frame ([0-9,]+)$', player.until('^0:00:[0-9]+, frame [0-9,]+$'))[1].replace(',', ''))
     for _ in range(3):

@@ -23,7 +23,7 @@ from ..script import recorded_moves
 from ..shown_game import SECONDS, Played, ShownGame, memory_folder
 from .timeline import FRAMES_BETWEEN, FRAMES_A_SECOND, Stamped, Timeline
 
-# a recording of ten hours has 3,600 moments of 4 to 9 KiB; where more are wanted each second one goes
+# a recording of ten hours has 3,600 moments, of the demo 3 KiB each
 MOST_BYTES = 32 << 20
 
 

@@ -51,7 +51,7 @@ class Standing:
         return f'{saved}, {self.rate:.0%}' if self.is_fast else saved
 
     def counter(self) -> str:
-        return f'{self.rate:.0%}, frame {self.frames:,}' + (f', {self.rerecords:,} rerecords' if self.rerecords else '')
+        return f'{self.rate:.0%}, frame {self.frames:,}' + (f', {self.rerecords:,} rerecord{"s" * (self.rerecords != 1)}' if self.rerecords else '')
 
 
 def asked(name: str, is_grave: bool = False, /, **given: object) -> Question:
