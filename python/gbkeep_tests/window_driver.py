@@ -173,7 +173,7 @@ class Player:
         time.sleep(seconds)
         self.keys('keyup', name)
 
-    def wait(self, what: Callable, or_else: str, seconds: float = 30):
+    def wait(self, what: Callable, or_else: str, seconds: float = 90):
         until = time.monotonic() + seconds
         while time.monotonic() < until:
             got = what()
@@ -188,11 +188,11 @@ class Player:
         """Whether something is shown that has this in it."""
         return any(re.search(pattern, text) for text in self.texts())
 
-    def until(self, pattern: str, seconds: float = 30) -> str:
+    def until(self, pattern: str, seconds: float = 90) -> str:
         """Waits until something is shown that has this in it."""
         return self.wait(lambda: next((text for text in self.texts() if re.search(pattern, text)), None), f'{pattern!r} was never shown', seconds)
 
-    def until_gone(self, pattern: str, seconds: float = 30) -> None:
+    def until_gone(self, pattern: str, seconds: float = 90) -> None:
         self.wait(lambda: not any(re.search(pattern, text) for text in self.texts()), f'{pattern!r} stays', seconds)
 
     def frame_count(self) -> int:
@@ -224,7 +224,7 @@ class Player:
     def ended(self, status: int = 0) -> str:
         """It ends so, and says nothing on standard output; answers what it says on the other."""
         try:
-            out, err = self.process.communicate(timeout=30)
+            out, err = self.process.communicate(timeout=90)
         except subprocess.TimeoutExpired:
             wrong('the window does not end')
         if self.process.returncode != status or out or 'Traceback' in err:
