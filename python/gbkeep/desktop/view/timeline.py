@@ -34,10 +34,9 @@ class TimelineWindow(Adw.Window):
         box.append(Adw.HeaderBar())
         self.set_content(box)
         self.add_controller(closed_by_escape(self))
-        store = Gio.ListStore(item_type=Item)
-        for moment, seconds in timeline.shown():
-            store.append(Item(moment, clock(moment.frames) if recorded else ago(seconds)))
-        if not (recorded.is_known if recorded else store.get_n_items()):
+        self.store = Gio.ListStore(item_type=Item)
+        self.fill(timeline)
+        if not (recorded.is_known if recorded else self.store.get_n_items()):
             box.append(Adw.StatusPage(icon_name='document-open-recent-symbolic', title='There is nothing yet', vexpand=True, description=words.said('no moments') if not recorded else
                                       words.said('recording unread') if recorded.is_read.is_set() else words.said('recording is read')))
             return
@@ -49,9 +48,7 @@ class TimelineWindow(Adw.Window):
         box.append(self.screen)
         self.said = Gtk.Label(css_classes=['heading', 'numeric'], margin_top=12)
         box.append(self.said)
-        if recorded:
-            self.seek(box, recorded)
-        self.chosen = Gtk.SingleSelection(model=store, autoselect=not recorded)
+        self.chosen = Gtk.SingleSelection(model=self.store, autoselect=not recorded, can_unselect=True, selected=Gtk.INVALID_LIST_POSITION)
         factory = Gtk.SignalListItemFactory()
         factory.connect('setup', lambda _f, item: item.set_child(Gtk.Box(orientation=Gtk.Orientation.VERTICAL, spacing=4, margin_start=4, margin_end=4, margin_top=4, margin_bottom=4)))
         factory.connect('bind', self.bind)
@@ -65,10 +62,16 @@ class TimelineWindow(Adw.Window):
         button.connect('clicked', lambda _: self.go())
         box.append(button)
         self.chosen.connect('notify::selected', lambda *_: self.show_chosen())
-        self.chosen.set_selected(store.get_n_items() - 1)
-        self.show_chosen()
+        if recorded:
+            self.seek(box, recorded)
+        else:
+            self.chosen.set_selected(self.store.get_n_items() - 1)
+            self.show_chosen()
         self.connect('map', lambda _: (self.scale if recorded else self.strip).grab_focus())
         scrolled.get_hadjustment().connect('changed', lambda one: one.set_value(one.get_upper()))
+
+    def fill(self, timeline: Timeline) -> None:
+        self.store.splice(0, self.store.get_n_items(), [Item(moment, clock(moment.frames) if self.recorded else ago(seconds)) for moment, seconds in timeline.shown()])
 
     def bind(self, _factory: Gtk.SignalListItemFactory, item: Gtk.ListItem) -> None:
         box, one = item.get_child(), item.get_item()
@@ -104,9 +107,10 @@ class TimelineWindow(Adw.Window):
         self.scale.connect('value-changed', lambda _: self.sought(timeline, seeker))
         self.name = labelled(Gtk.Entry(placeholder_text='Name of this moment', width_chars=24, max_length=80, halign=Gtk.Align.CENTER), 'Name of this moment')
         self.name.connect('activate', lambda _: self.mark(timeline))
-        box.append(self.scale)
-        box.append(self.name)
+        box.insert_child_after(self.scale, self.said)
+        box.insert_child_after(self.name, self.scale)
         self.show_marks(timeline)
+        self.sought(timeline, seeker)
 
     def sought(self, timeline: RecordedTimeline, seeker: Seeker) -> None:
         count = int(self.scale.get_value())
@@ -118,6 +122,9 @@ class TimelineWindow(Adw.Window):
     def found(self, count: int, shades: bytes) -> bool:
         if count == int(self.scale.get_value()):
             self.screen.show_picture(shades)
+        if self.recorded and len(self.recorded.moments) != self.store.get_n_items():
+            # what was passed on the way there
+            self.fill(self.recorded)
         return False
 
     def show_marks(self, timeline: RecordedTimeline) -> None:
