@@ -130,7 +130,8 @@ bin/arm64/gbkeep: $(SOURCES) $(BY_ARM64) library/heap.c | $(LOOK)
 
 build: $(OUT)/gbkeep
 
-install: $(OUT)/gbkeep $(OUT)/libgbkeep.so
+# the window plays by the library: where there is no C compiler, all else is installed
+install: $(OUT)/gbkeep $(if $(shell command -v $(if $(ARCH),aarch64-linux-gnu-gcc,$(CC))),$(OUT)/libgbkeep.so)
 	@python3 -B packaging/installed.py --destdir "$(DESTDIR)" --libdir "$(LIBDIR)" --built $(OUT) "$(PREFIX)"
 
 uninstall:
@@ -293,7 +294,6 @@ test:
 # a proof by one process: each more reads its libraries again
 	RT_JOBS=$$(python3 -B -c 'from scripts.build import jobs; print(jobs())') python3 -B scripts/gate_cost.py $(RT) ci
 	python3 -B scripts/program_tests/run.py $(PROGRAM)/out/gbkeep_program
-	$(PIL_PYTHON) -B scripts/front_door.py $(PROGRAM)/out/gbkeep_program
 	python3 -B python/gbkeep_tests/test_desktop_model.py
 	$(NUMPY_PYTHON) -B python/gbkeep_tests/test_package.py
 	$(PIL_PYTHON) -B python/gbkeep_tests/test_pictures.py
@@ -310,6 +310,7 @@ test:
 	python3 -B python/gbkeep_tests/test_shown_game.py $(PROGRAM)/out/gbkeep_program && \
 	$(PIL_PYTHON) -B scripts/tool_fuzz.py $(PROGRAM)/out/gbkeep_program 5 1 && \
 	python3 -B scripts/tool_faults.py $(PROGRAM)/out/gbkeep_program 40 1; fi
+	$(PIL_PYTHON) -B scripts/front_door.py $(PROGRAM)/out/gbkeep_program
 	if python3 -B scripts/doctor.py --try 'the libretro core' cc ar libretro.h; then CC="$(CC)" LIBRETRO="$(LIBRETRO)" python3 -B scripts/libretro.py && \
 	python3 -B players/libretro/test_libretro.py $(PROGRAM)/out/gbkeep_program bin/gbkeep_libretro.so && \
 	if python3 -B scripts/doctor.py --try 'the libretro core, garbage' sanitizers; then \

@@ -181,7 +181,7 @@ TARGETS = {
     'build': ((), ('OUT/gbkeep',)),
     'demo': ((), ('bin/gbkeep',)),
     'play': (('GTK',), ('bin/gbkeep', 'bin/libgbkeep.so')),
-    'install': ((), ('OUT/gbkeep', 'OUT/libgbkeep.so')),
+    'install': ((), ('OUT/gbkeep',)),
     'uninstall': ((), ()),
     'libretro': ((), ('OUT/gbkeep_libretro.so',)),
     'library': ((), ('OUT/libgbkeep.so',)),

@@ -21,6 +21,8 @@ WORDS, ARCHITECTURE = 'crates/command_line/src/words.rt', 'docs/ARCHITECTURE.md'
 # recording only in a new file
 NOT_OF_THE_PROGRAM = {'broken, open it again', 'save first', 'not blank'}
 OPTIONS = {'--help', '--version', '-h', '-V', '--'}
+# the library, where it is built
+BUILT = [Path('bin', name) for name in ('libgbkeep.so', 'libgbkeep.a', 'gbkeep.h', 'gbkeep.pc')]
 
 
 # ---- what the sources have
@@ -301,7 +303,8 @@ def clone(room, program):
     os.makedirs(os.path.join(room, 'crates/command_line/src'))
     shutil.copy(WORDS, os.path.join(room, WORDS))
     shutil.copy(program, os.path.join(room, 'bin/gbkeep'))
-    os.utime(os.path.join(room, 'bin/gbkeep'))
+    for path in [Path(room, 'bin/gbkeep'), *(Path(shutil.copy(one, os.path.join(room, 'bin'))) for one in BUILT if one.exists())]:
+        os.utime(path)
 
 
 def run_blocks(program, texts):
@@ -355,7 +358,7 @@ def run_helps(program, texts):
 
 def installed(room):
     """`make install`, and each tool that it installs."""
-    status, got = shell(room, 'make install PREFIX=inst')
+    status, got = shell(room, 'make install PREFIX=inst' + ('' if BUILT[0].exists() else ' CC=none'))
     wrong = [f'make install: {got}'] if status != 0 else []
     for path in ('bin/gbkeep', 'bin/gbkeep-window', 'bin/gbkeep-script', 'bin/gbkeep-rest', 'bin/gbkeep-movie', 'bin/gbkeep-film', 'bin/gbkeep-branch', 'bin/gbkeep-verify', 'bin/gbkeep-battery',
                  'bin/gbkeep-run-tests', 'bin/gbkeep-debug', 'share/man/man1/gbkeep.1', 'share/man/man1/gbkeep-window.1', 'share/applications/gbkeep.desktop',
