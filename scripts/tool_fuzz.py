@@ -87,12 +87,14 @@ def some_png(rnd: random.Random) -> bytes:
 
 
 def some_bk2(rnd: random.Random) -> bytes:
-    """A movie whose log or header is damaged before it is packed, or after."""
+    """A movie whose parts are damaged before they are packed, or after."""
     if rnd.random() < 0.4:
-        return bk2_of([rnd.randrange(256) for _ in range(rnd.randrange(40))], 'a game')
+        return bk2_of([rnd.randrange(512) for _ in range(rnd.randrange(40))], 'a game')
     with tempfile.TemporaryFile() as file:
         with zipfile.ZipFile(file, 'w', rnd.choice([zipfile.ZIP_STORED, zipfile.ZIP_DEFLATED, zipfile.ZIP_DEFLATED, zipfile.ZIP_BZIP2])) as movie:
-            movie.writestr(rnd.choice(['Header.txt', 'x/Header.txt', 'header.TXT']), damaged(rnd, b'MovieVersion BizHawk v2.0.0\nPlatform GB\n'))
+            movie.writestr(rnd.choice(['Header.txt', 'x/Header.txt', 'header.TXT']), damaged(rnd, b'MovieVersion BizHawk v2.0.0\nPlatform GB\nAuthor a b\nrerecordCount 3\n'))
+            movie.writestr('Comments.txt', damaged(rnd, b'a comment\n#1\n'))
+            movie.writestr('Markers.txt', damaged(rnd, b'0\tbegin\n3\tthe end\n'))
             movie.writestr('Input Log.txt', damaged(rnd, b'[Input]\nLogKey:#Tilt X|#Up|Down|Left|Right|Start|Select|B|A|Power|\n' + b'|    0,|.........|\n' * rnd.randrange(9) + b'[/Input]\n'))
         file.seek(0)
         return file.read()
@@ -232,7 +234,7 @@ def target(rnd: random.Random, name: str) -> tuple[bytes, set[bytes]]:
 def movies(rnd, room):
     kind, made = rnd.choice([('fuzzed.bk2', some_bk2), ('fuzzed.vbm', some_vbm)])
     room.write(kind, damaged(rnd, made(rnd)) if rnd.random() < 0.8 else made(rnd))
-    return [*bare_words('movie'), 'script', maybe(rnd, kind)], b'', set()
+    return [*bare_words('movie'), rnd.choice(['script', 'friendly']), maybe(rnd, kind)], b'', set()
 
 
 def scripts(rnd, room):

@@ -258,7 +258,7 @@ def bk2_of(frames: Iterable[int], cart_name: str, notes: Notes = Notes()) -> byt
     data = io.BytesIO()
     with zipfile.ZipFile(data, 'w', zipfile.ZIP_DEFLATED) as movie:
         movie.writestr('Header.txt', lines('MovieVersion BizHawk v2.0.0', 'Platform GB', 'Core Gambatte', f'GameName {printable(cart_name)}',
-                                           f'Author {notes.author or "gbkeep"}', f'rerecordCount {notes.rerecords}'))
+                                           *([f'Author {notes.author}'] if notes.author else []), f'rerecordCount {notes.rerecords}'))
         with movie.open('Input Log.txt', 'w') as log:
             for line in log_lines(frames):
                 log.write(line)
