@@ -146,8 +146,9 @@ def test_launchers(folder):
         status, out, err = ran([sys.executable, '-B', folder / 'installed/bin' / name, '--help'])
         expect(f'{name} --help', (status, f'usage: {name}' in out, err), (0, True, ''))
         expect('its page', f'.TH {name.upper()} 1' in (folder / f'installed/share/man/man1/{name}.1').read_text(), True)
-    expect('that it has types', (folder / 'installed/share/gbkeep/gbkeep/py.typed').exists(), True)
-    expect('also for pip', 'package-data = { gbkeep = ["py.typed"] }' in (SOURCES / 'pyproject.toml').read_text(), True)
+    for name in ('py.typed', 'messages.json'):
+        expect('types, and texts', (folder / f'installed/share/gbkeep/gbkeep/{name}').exists(), True)
+    expect('also for pip', 'package-data = { gbkeep = ["py.typed", "messages.json"] }' in (SOURCES / 'pyproject.toml').read_text(), True)
     status, out, err = ran([sys.executable, '-B', folder / 'installed/bin/gbkeep-script', 'check', folder / 'none'])
     expect('a name in a refusal', (status, out, err), (1, '', f'gbkeep-script: {folder}/none: No such file or directory\n'))
     status, out, err = ran([sys.executable, '-B', '-m', 'gbkeep.script', 'check', folder / 'none'], PYTHONPATH=str(SOURCES))

@@ -1,4 +1,5 @@
 """Drives the window on a display of its own: by its accessibility tree, by keys, and by looking at pictures of it."""
+import atexit
 import contextlib
 import os
 import re
@@ -7,6 +8,7 @@ import shutil
 import signal
 import subprocess
 import sys
+import tempfile
 import time
 import warnings
 from collections.abc import Callable
@@ -16,13 +18,12 @@ from gbkeep_tests.support import TOP, tool_words, wrong
 
 DEMO = TOP / 'examples/demo'
 NEEDS = (('Xvfb', 'xvfb'), ('xdotool', 'xdotool'), ('openbox', 'openbox'), ('dbus-run-session', 'dbus-daemon'), ('import', 'imagemagick'))
-# says that the session's bus was made for the tests
-
+# names the folder of a session's bus that was made for the tests
 BUS = 'GBKEEP_TEST_BUS'
 
 
 def needs() -> None:
-    """Ends where something is missing; goes on with a bus of its own."""
+    """Ends where something is missing; goes on with a bus of its own, and one of accessibility, whose socket lies in the folder of the session."""
     missing = [package for program, package in NEEDS if not shutil.which(program)]
     code = "import gi\nfor one in (('Gtk', '4.0'), ('Adw', '1'), ('Atspi', '2.0')): gi.require_version(*one)"
     if subprocess.run([sys.executable, '-c', code], capture_output=True).returncode != 0:
@@ -30,7 +31,9 @@ def needs() -> None:
     if missing:
         sys.exit("test_window.py needs Debian's " + ', '.join(missing))
     if BUS not in os.environ:
-        os.execvpe('dbus-run-session', ['dbus-run-session', '--', sys.executable, *sys.argv], dict(os.environ, **{BUS: '1'}))
+        folder = tempfile.mkdtemp(prefix='session-')
+        os.execvpe('dbus-run-session', ['dbus-run-session', '--', sys.executable, *sys.argv], dict(os.environ, **{BUS: folder, 'XDG_RUNTIME_DIR': folder}))
+    atexit.register(shutil.rmtree, os.environ[BUS], ignore_errors=True)
 
 
 class Screen:
@@ -74,7 +77,11 @@ class Player:
                                         env=screen.env, start_new_session=True, stdout=subprocess.PIPE, stderr=subprocess.PIPE, text=True)
         self.began = time.monotonic()
         if is_shown:
-            self.wait(self.app, 'no window came up')
+            try:
+                self.wait(self.app, 'no window came up')
+            except AssertionError:
+                self.kill()
+                raise
 
     # ---- the tree
 
