@@ -309,11 +309,11 @@ def test_recorded(room):
     player.press('Begin a branch here')
     player.until('^Begin a branch here\\?$')
     player.press('Begin a branch')
-    player.until('^A branch: run-3.gbkeep, recorded in run-3.rec', 120)
-    expect('its notes', room.path('run-3.rec.notes').read_text().splitlines()[1:], ['rerecords 2', f'mark {frame - 3} first room'])
+    player.until('^A branch: run-2-2.gbkeep, recorded in run-2-2.rec', 120)
+    expect('its notes', room.path('run-2-2.rec.notes').read_text().splitlines()[1:], ['rerecords 2', f'mark {frame - 3} first room'])
     time.sleep(1)
     player.close()
-    for one, other in (('run-3.gbkeep', 'run-3.rec'), ('run-2.gbkeep', 'run-2.rec'), (save, recording)):
+    for one, other in (('run-2-2.gbkeep', 'run-2-2.rec'), ('run-2.gbkeep', 'run-2.rec'), (save, recording)):
         expect(f'{one} agrees', run(room.gbkeep, 'verify', str(CART), str(room.path(one)), str(room.path(other)))[:6], 'agree ')
     count = room.inputs(save)
     for answer, goes in (('Cancel', False), ('Go on', True)):
