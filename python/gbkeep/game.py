@@ -120,9 +120,16 @@ class Process(subprocess.Popen):
             super().__init__(words, **how)
         except BaseException:
             if getattr(self, 'pid', None) is not None:
-                self.kill()
-                self.wait()
+                stop(self)
             raise
+
+
+def stop(process: subprocess.Popen) -> None:
+    """Ends a process, which has a second to make a file whole that it has begun."""
+    with contextlib.suppress(subprocess.TimeoutExpired):
+        process.wait(1)
+    process.kill()
+    process.wait()
 
 
 def started(words: list[str], **how: object) -> Process:
@@ -150,8 +157,7 @@ def ended(process: subprocess.Popen) -> Iterator[None]:
     try:
         yield
     except BaseException:
-        process.kill()
-        process.wait()
+        stop(process)
         raise
 
 
