@@ -129,7 +129,8 @@ def test_play_and_kill(room):
         begun(player)
         told = count
     # a busy computer keeps a save waiting now and then
-    expect('no more than a second and a half is lost', sorted(lost)[KILLS // 2] < 1.6, True)
+    expect('no more than a second and a half is lost, mostly', sorted(lost)[KILLS // 2] < 1.6, True)
+    expect('what is lost at most', max(lost) < 6, True)
     print(f'killed {KILLS} times, {max(lost)} s lost at most', flush=True)
     player.close()
     player = begun(room.open(CART, save))
