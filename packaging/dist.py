@@ -242,12 +242,10 @@ class Release:
                      "Description: runner of test ROMs and debugger's prompt for gbkeep\n"
                      ' gbkeep-run-tests runs test ROMs, folders and lists of them on all\n processors, and writes reports for a CI. gbkeep-debug looks inside a ROM or a\n game by'
                      ' labels and lines of C.\n')
-        # the core starts the program to import a battery file, and for nothing else
-        has_core = self.package('gbkeep-libretro', f'Section: otherosfs\n{here}Depends: libc6 (>= {self.libc("gbkeep-libretro")})\nRecommends: gbkeep (= {VERSION})\n'
+        has_core = self.package('gbkeep-libretro', f'Section: otherosfs\n{here}Depends: libc6 (>= {self.libc("gbkeep-libretro")})\n'
                                 'Enhances: kodi, retroarch\nDescription: libretro core for gbkeep\n'
                                 ' RetroArch, Kodi and other front ends play a game of gbkeep by it: the proved\n machine and the proved session, in the front end\'s own process. It keeps the\n'
-                                ' game in a save file in the front end\'s save folder, every second, which no\n power cut can spoil. The program gbkeep imports a battery file of another core\n'
-                                ' for it.\n')
+                                ' game in a save file in the front end\'s save folder, every second, which no\n power cut can spoil, and begins it with the battery file of another core.\n')
         words = ' The proved machine and the proved session of gbkeep, a Game Boy emulator, for\n programs in C: frames, pictures and states in the same process, and saves that\n'
         library = self.package('libgbkeep0', f'Section: libs\n{here}Multi-Arch: same\nDepends: libc6 (>= {self.libc("libgbkeep0")})\n'
                                f'Description: Game Boy emulator as a library\n{words} survive any power cut on a disk that the program writes.\n',

@@ -447,10 +447,10 @@ def test_packages(folder: Path) -> None:
     packages = {control(path)['Package']: path for path in made.glob('*.deb')}
     fields, files = {name: control(path) for name, path in packages.items()}, {name: packed(path) for name, path in packages.items()}
     version = installed.version()
-    # the core is the library in the front end; the program imports for it
+    # the core is the library in the front end
     core = fields['gbkeep-libretro']
     expect('the core depends on', re.sub(r' \(.*?\)', '', core['Depends']), 'libc6')
-    expect('the core recommends', core.get('Recommends'), f'gbkeep (= {version})')
+    expect('the core recommends', core.get('Recommends'), None)
     expect('the core', ("in the front end's own process" in core['Description'], 'it starts the' in core['Description']), (True, False))
     # what the tools say that they need
     helps = {name: ' '.join(installed.said_of(TOP / f'python/gbkeep/{module}.py').split()) for name, module in installed.tools().items()}

@@ -5,7 +5,7 @@
  * told once the last of them was made. The front end is handed no save memory, which it would write unsafely; what it sees of the memory is a copy.
  *
  * The thread has one job at a time: the calls of a save; SAVE.time, for a cartridge with a clock; or a session that is taken up anew. A disk that takes a minute ends the game, and is left
- * behind with all that it needs, since nobody can end a call of a disk that does not answer. `gbkeep import` alone is still run as a program.
+ * behind with all that it needs, since nobody can end a call of a disk that does not answer.
  *
  * A front end that runs ahead by a second instance has that one load the same game: it gets a machine without a SAVE. Any other second load gets one, too, and is
  * told that nothing is saved there. */
@@ -16,7 +16,6 @@
 #include <poll.h>
 #include <pthread.h>
 #include <signal.h>
-#include <spawn.h>
 #include <stdarg.h>
 #include <stdatomic.h>
 #include <stdbool.h>
@@ -27,20 +26,11 @@
 #include <sys/file.h>
 #include <sys/random.h>
 #include <sys/stat.h>
-#include <sys/wait.h>
 #include <time.h>
 #include <unistd.h>
 #include "gbkeep.h"
 #include "libretro.h"
 #include "tables.h"
-
-#ifndef GBKEEP_PROGRAM
-#define GBKEEP_PROGRAM "gbkeep"
-#endif
-
-#ifndef END_MILLISECONDS
-#define END_MILLISECONDS 10000
-#endif
 
 /* A save may take long on a worn card: from the first on the player is told, at the second the game ends. */
 #ifndef SLOW_MILLISECONDS
@@ -54,8 +44,6 @@ __asm__(".symver pthread_create, pthread_create@GLIBC_2.2.5\n.symver pthread_joi
 #elif defined __GLIBC__ && defined __aarch64__
 __asm__(".symver pthread_create, pthread_create@GLIBC_2.17\n.symver pthread_join, pthread_join@GLIBC_2.17\n.symver pthread_detach, pthread_detach@GLIBC_2.17");
 #endif
-
-extern char **environ;
 
 enum { WIDTH = 160, HEIGHT = 144, SHADES = WIDTH * HEIGHT, SILENCE = 800, SECTOR = 512, MOST_ROM = 0x800000, MOST_SECTORS = 65536, MOST_FILES = 4096 };
 /* the seconds between two saves are an option: half a minute is the longest that is offered, an hour the longest that is taken */
@@ -78,7 +66,9 @@ enum { IS_SHOWN = 1, HAS_NO_SOUND = 8 };
 /* frames from one telling that nothing is saved to the next: a minute */
 enum { FRAMES_UNSAVED = 3600 };
 /* what is shown at once has room on the smallest screen */
-enum { MOST_SHOWN = 64, MOST_LINE = 64 };
+enum { MOST_SHOWN = 64, MOST_LINE = 64, MOST_NAME = 24 };
+/* another core's battery file: the largest RAM, and the registers of a clock */
+enum { MOST_BATTERY = 0x20000 + 48 };
 /* where a state has what the front end may look at: it is a header, which names the ROM, and a snapshot (docs/SNAPSHOT.md) */
 enum {
     STATE_HEADER = 40,
@@ -99,7 +89,7 @@ static const struct retro_variable VARIABLES[] = {
     {"gbkeep_save_seconds", "Seconds between saves; 1|2|5|10|30"},
     {"gbkeep_time_away", "Give the time away to a cartridge's clock; yes|no"},
     {"gbkeep_messages", "Messages; refusals only|none|all"},
-    {"gbkeep_import", "Begin a new game with the NAME.srm of another core; no|yes"},
+    {"gbkeep_import", "Begin a new game with another core's save (NAME.srm or NAME.sav); yes|no"},
     {NULL, NULL},
 };
 
@@ -425,65 +415,6 @@ static uint8_t *read_file(const char *path, int flags, size_t most, size_t *leng
     }
     close_one(&fd);
     return bytes;
-}
-
-/* ---- programs */
-
-/* What the variable GBKEEP names; else `gbkeep` in the folder of the core, as on a handheld; else the first on the search path. */
-static const char *program_name(void) {
-    static char beside[PATH_MAX];
-    const char *named = getenv("GBKEEP"), *core = NULL;
-    if (named && *named)
-        return named;
-    const char *slash = environment(RETRO_ENVIRONMENT_GET_LIBRETRO_PATH, &core) && core ? strrchr(core, '/') : NULL;
-    int size = slash ? snprintf(beside, sizeof beside, "%.*s/" GBKEEP_PROGRAM, (int)(slash - core), core) : 0;
-    return size > 0 && (size_t)size < sizeof beside && access(beside, X_OK) == 0 ? beside : GBKEEP_PROGRAM;
-}
-
-/* Runs a command to its end, with no input and no output but its refusal, which is shown. One that does not end is ended. */
-static bool run_command(char *const words[]) {
-    char line[300] = "";
-    int errors[2], status = 0;
-    pid_t pid, ended = 0;
-    posix_spawn_file_actions_t files;
-    hold_streams();
-    if (pipe2(errors, O_CLOEXEC))
-        return fail_with("no pipe could be had", "");
-    posix_spawn_file_actions_init(&files);
-    posix_spawn_file_actions_addopen(&files, 0, "/dev/null", O_RDONLY, 0);
-    posix_spawn_file_actions_addopen(&files, 1, "/dev/null", O_WRONLY, 0);
-    posix_spawn_file_actions_adddup2(&files, errors[1], 2);
-    int failed = posix_spawnp(&pid, program_name(), &files, NULL, words, environ);
-    posix_spawn_file_actions_destroy(&files);
-    close_one(&errors[1]);
-    if (failed) {
-        close_one(&errors[0]);
-        snprintf(line, sizeof line, "%s can't be started: %s", program_name(), strerror(failed));
-        return fail_with(line, "");
-    }
-    long long until = milliseconds() + END_MILLISECONDS;
-    for (size_t got = 0; got + 1 < sizeof line;) {
-        struct pollfd wanted = {errors[0], POLLIN, 0};
-        long long left = until - milliseconds();
-        ssize_t more = left > 0 && poll(&wanted, 1, (int)left) > 0 ? read(errors[0], line + got, sizeof line - 1 - got) : 0;
-        if (more < 0 && errno == EINTR)
-            continue;
-        if (more <= 0)
-            break;
-        got += (size_t)more;
-    }
-    close_one(&errors[0]);
-    line[strcspn(line, "\n")] = 0;
-    while ((ended = waitpid(pid, &status, WNOHANG)) == 0 && milliseconds() < until)
-        poll(NULL, 0, 5);
-    if (ended == 0) {
-        kill(pid, SIGKILL);
-        waitpid(pid, &status, 0);
-    }
-    /* a front end that waits for all its children may have taken the status */
-    if (ended < 0 ? exists(words[5]) : WIFEXITED(status) && WEXITSTATUS(status) == 0)
-        return true;
-    return fail_with(line[0] ? line : "the program was ended", words[1]);
 }
 
 /* ---- the thread */
@@ -933,7 +864,7 @@ static void read_options(void) {
     game.gives_time_away = strcmp(option("gbkeep_time_away"), "no") != 0;
     const char *messages = option("gbkeep_messages");
     game.messages = strcmp(messages, "all") == 0 ? ALL : strcmp(messages, "none") == 0 ? NONE : REFUSALS_ONLY;
-    game.imports = strcmp(option("gbkeep_import"), "yes") == 0;
+    game.imports = strcmp(option("gbkeep_import"), "no") != 0;
 }
 
 /* ---- taking up a game */
@@ -1006,12 +937,61 @@ static void unmark(void) {
     free(mark);
 }
 
-/* Begins a game in a new file. */
-static bool make_game(void) {
-    gbkeep_session *session;
-    uint32_t code = gbkeep_session_sectors(game.rom, game.rom_length, &game.sectors);
-    if (code == GBKEEP_DONE)
+/* The name of a file, without its folder: the front and the end of one that has no room on the screen, of whole characters. */
+static void name_shortly(char name[MOST_NAME + 1], const char *path) {
+    const char *slash = strrchr(path, '/'), *whole = slash ? slash + 1 : path, *end = whole + strlen(whole);
+    int front = MOST_NAME - 2 - 8;
+    if (end - whole <= MOST_NAME) {
+        memcpy(name, whole, (size_t)(end - whole) + 1);
+        return;
+    }
+    for (end -= 8; (*end & 0xc0) == 0x80; end++)
+        ;
+    while (front > 0 && (whole[front] & 0xc0) == 0x80)
+        front--;
+    snprintf(name, MOST_NAME + 1, "%.*s..%s", front, whole, end);
+}
+
+/* A battery file that is not taken begins no game: a SAVE without it would stand in its way for good. */
+static bool refuse_battery(const char *path, const char *why) {
+    char name[MOST_NAME + 1];
+    name_shortly(name, path);
+    snprintf(game.fault, sizeof game.fault, "%s. What to do: put the right file there or take it away, or say no to the core's option to begin a new game with another core's "
+             "save. The file is %s", why, path);
+    snprintf(game.shown, sizeof game.shown, "%s is no save of this game (see the log)", name);
+    tell(REFUSAL, 600, game.fault, "%s", game.shown);
+    return false;
+}
+
+/* Says what another core's battery file was taken for. */
+static void tell_battery(const char *path, bool is_taken) {
+    char name[MOST_NAME + 1], more[PATH_MAX + 200];
+    name_shortly(name, path);
+    snprintf(more, sizeof more, "%s: %s. That file is only read.", path, is_taken ? "what it keeps of the cartridge is in the new game" : "the cartridge has no battery, so the file is none of it");
+    tell(REFUSAL, 600, more, is_taken ? "A new game with the save in %s" : "A new game without %s: there is no battery", name);
+}
+
+/* Begins a game in a new file, with what another core's battery file keeps where there is one and the option says so. */
+static bool begin_game(void) {
+    gbkeep_session *session = NULL;
+    char path[PATH_MAX], why[100];
+    size_t length = 0;
+    bool has_battery = game.imports && find_battery(path);
+    uint8_t *battery = has_battery ? read_file(path, 0, MOST_BATTERY, &length) : NULL;
+    if (has_battery && !battery)
+        return refuse_battery(path, "It can't be read");
+    uint32_t code = gbkeep_session_sectors(game.rom, game.rom_length, &game.sectors), imported = GBKEEP_NO_BATTERY;
+    if (code == GBKEEP_DONE && has_battery)
+        imported = code = gbkeep_session_import(game.rom, game.rom_length, battery, length, game.sectors, &session);
+    free(battery);
+    if (code == GBKEEP_NO_BATTERY || (code == GBKEEP_DONE && !has_battery))
         code = gbkeep_session_begin(game.rom, game.rom_length, game.sectors, &session);
+    if (code == GBKEEP_BATTERY_LENGTH && gbkeep_session_begin(game.rom, game.rom_length, game.sectors, &session) == GBKEEP_DONE) {
+        snprintf(why, sizeof why, "It has %llu bytes, and a save of this game has %zu", (unsigned long long)about(AT_FDCWD, path, 0).stx_size,
+                 gbkeep_session_battery_length(session));
+        gbkeep_session_free(session);
+        return refuse_battery(path, why);
+    }
     if (code != GBKEEP_DONE)
         return fail_by(code, "new");
     game.image = calloc(game.sectors, SECTOR);
@@ -1026,24 +1006,8 @@ static bool make_game(void) {
     if (!good)
         return fail_with("device failed", "new");
     unmark();
-    return true;
-}
-
-/* Begins a game, with the battery file of another core where the option says so. */
-static bool begin_game(void) {
-    char battery[PATH_MAX], said[6 * PATH_MAX];
-    char *import[] = {"gbkeep", "import", "--", game.cart, battery, game.save, NULL};
-    bool has_battery = find_battery(battery);
-    if (has_battery && game.imports)
-        return run_command(import);
-    if (!make_game())
-        return false;
-    if (has_battery) {
-        snprintf(said, sizeof said, "%s is another core's battery file. To go on from it, close the game, remove %s, and set the option to begin a new game with it, or: "
-                 "gbkeep import '%s' '%s' '%s'", battery, game.save, game.cart, battery, game.save);
-        const char *suffix = strrchr(battery, '.');
-        tell(REFUSAL, 600, said, "A new game: NAME%s is there; to import it, see the log", suffix);
-    }
+    if (has_battery)
+        tell_battery(path, imported == GBKEEP_DONE);
     return true;
 }
 

@@ -1,6 +1,6 @@
 #!/usr/bin/env python3
 """Gives the libretro core garbage, under the sanitizers of addresses and of what C leaves undefined: wrong ROMs, SAVEs, states, files of time and battery, options
-that no front end offers, calls in any order, a disk that fails or stands still, and an import that answers garbage. The front end goes on, and soon.
+that no front end offers, calls in any order, and a disk that fails or stands still. The front end goes on, and soon.
 
 usage: test_garbage.py [RUNS [SEED]]     the status is 1 at the first fault (default: 60 runs, seed 1)
 
@@ -20,23 +20,9 @@ HEADERS = os.environ.get('LIBRETRO', '/usr/include/libretro-common')
 COMPILER = os.environ.get('CC', 'cc')
 # a session is taken up anew every few saves
 FLAGS = ['-std=c11', '-g', '-O1', '-Wall', '-Wextra', '-Werror', '-fPIC', '-shared', '-fsanitize=address,undefined', '-fno-sanitize-recover=all',
-         '-fno-omit-frame-pointer', '-DEND_MILLISECONDS=500', '-DSLOW_MILLISECONDS=200', '-DSAVE_MILLISECONDS=1000', '-pthread', '-Wl,-z,nodelete']
+         '-fno-omit-frame-pointer', '-DSLOW_MILLISECONDS=200', '-DSAVE_MILLISECONDS=1000', '-pthread', '-Wl,-z,nodelete']
 # what a run may take on a busy computer
 MOST_SECONDS = 30
-PROGRAM = '''#!{python} -SE
-import os, random, signal, sys, time
-rnd = random.Random(open({seed!r}).read())
-if rnd.random() < 0.5:
-    open(sys.argv[-1], 'wb').write(rnd.choice([b'', b'x', bytes(512 * 200)]))
-os.write(1, rnd.randbytes(200_000 if rnd.random() < 0.2 else 10))
-os.write(2, rnd.choice([b'', b'gbkeep: device failed\\n', b'gbkeep: rom length 5\\n', b'%n%s%n\\n', rnd.randbytes(2000), b'gbkeep: rom length ' + b'9' * 600,
-                        b'\\x1b[2J', b'gbkeep: cartridge type X']))
-if rnd.random() < 0.1:
-    time.sleep(1)
-if rnd.random() < 0.2:
-    os.kill(os.getpid(), rnd.choice([signal.SIGKILL, signal.SIGSEGV, signal.SIGTERM]))
-sys.exit(rnd.choice([0, 0, 1, 2, 255]))
-'''
 WORDS = ['1', '2', '0', '-1', '1073741824', '2147483648', '4294967296', '18446744073709551616', '9' * 400, '', 'x', '1x', ' 1', '%n', '\x1b[2J', 'night', 'no',
          'yes']
 TIMES = [b'', b'5 1000\n', b'18446744073709551615 99999999999\n', b'0 9223372036854775807\n', b'0 -9223372036854775808\n', b'-1 -1\n', b'9' * 5000,
@@ -97,7 +83,6 @@ def one_run(core, room, seed):
     from test_libretro import FrontEnd
     rnd, folder = random.Random(seed), room / f'game-{seed}'
     folder.mkdir()
-    (room / 'seed').write_text(str(seed))
     save, cart, held = folder / 'x.gbkeep', room / 'x.gb', room / 'held'
     cart.write_bytes(some_cart(rnd))
     os.environ['FAIL_EACH'] = str(rnd.choice([0, 0, 0, 2, 30, 500]))
@@ -122,7 +107,9 @@ def one_run(core, room, seed):
         rnd.choice([lambda: os.mkfifo(time_file), time_file.mkdir, lambda: time_file.symlink_to('/dev/zero'), lambda: time_file.symlink_to('nowhere'),
                     lambda: time_file.symlink_to(time_file)])()
     if rnd.random() < 0.3:
-        (folder / 'x.srm').write_bytes(rnd.randbytes(rnd.choice([0, 5, 8192])))
+        battery = folder / rnd.choice(['x.srm', 'x.sav'])
+        rnd.choice([lambda: battery.write_bytes(rnd.randbytes(rnd.choice([0, 5, 512, 2048, 8192, 8240, 32768, 1 << 20])))] * 6
+                   + [lambda: os.mkfifo(battery), battery.mkdir, lambda: battery.symlink_to('/dev/zero'), lambda: battery.symlink_to(battery)])()
     options = {option: rnd.choice(WORDS) for option in ('palette', 'save_seconds', 'time_away', 'messages', 'import')}
     front, states = FrontEnd(core, folder, **options), [None]
     front.looks = False
@@ -190,18 +177,14 @@ def stuck(core, room):
 def main():
     words = sys.argv[1:]
     if len(words) == 5 and words[0] == 'runs':
-        # the program that is started needs no sanitizer
-        os.environ.pop('LD_PRELOAD')
         stuck(words[1], words[2])
         return runs(words[1], words[2], int(words[3]), int(words[4]))
     count, first = (int(word) for word in [*words, 60, 1][:2]) if len(words) != 1 else (int(words[0]), 1)
     from test_libretro import disk
     with tempfile.TemporaryDirectory(prefix='garbage-') as folder:
         room = Path(folder)
-        core, program = build(room), room / 'gbkeep'
-        program.write_text(PROGRAM.format(python=sys.executable, seed=str(room / 'seed')))
-        program.chmod(0o755)
-        env = dict(os.environ, GBKEEP=str(program), LD_PRELOAD=f'{library("libasan.so")}:{library("libubsan.so")}:{disk(room)}', ASAN_OPTIONS='detect_leaks=0',
+        core = build(room)
+        env = dict(os.environ, LD_PRELOAD=f'{library("libasan.so")}:{library("libubsan.so")}:{disk(room)}', ASAN_OPTIONS='detect_leaks=0',
                    UBSAN_OPTIONS='print_stacktrace=1', HOLD=str(room / 'held'))
         done = subprocess.run([sys.executable, '-B', __file__, 'runs', core, room, str(first), str(first + count)], env=env, capture_output=True, text=True,
                               errors='replace')

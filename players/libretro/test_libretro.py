@@ -26,7 +26,6 @@ from pathlib import Path
 
 from examples.demo.assemble import Assembler
 from gbkeep import A, RIGHT, START, Game, Machine
-from gbkeep.faults import FAULTS, explained
 from gbkeep.game import run
 from gbkeep.palettes import NAMES, PALETTES
 from gbkeep.save_files import root_of
@@ -36,7 +35,7 @@ from scripts.not_tried import note
 WIDTH, HEIGHT = 160, 144
 # a pixel of each shade, by the name of a palette
 COLOURS = {name: [int.from_bytes(colour, 'big') for colour in palette] for name, palette in zip(NAMES, PALETTES)}
-SET_MESSAGE, GET_SAVE_DIRECTORY, SET_PIXEL_FORMAT, GET_VARIABLE, SET_VARIABLES, GET_VARIABLE_UPDATE, GET_LOG, GET_CORE = 6, 31, 10, 15, 16, 17, 27, 19
+SET_MESSAGE, GET_SAVE_DIRECTORY, SET_PIXEL_FORMAT, GET_VARIABLE, SET_VARIABLES, GET_VARIABLE_UPDATE, GET_LOG = 6, 31, 10, 15, 16, 17, 27
 SET_MEMORY_MAPS, GET_AUDIO_VIDEO_ENABLE = 36 | 0x10000, 47 | 0x10000
 # what the front end wants of a frame: all, or nothing as it runs ahead; of the second instance by which it does so the picture, and no sound ever
 WANTED, UNWANTED, AHEAD = 3, 4, 13
@@ -122,8 +121,7 @@ class Map(ctypes.Structure):
 class FrontEnd:
     """A front end of few lines: one core, one cartridge. `told` is what stands on the screen, `log` all that is logged, `map` what it may look at."""
 
-    def __init__(self, core, folder, place=None, **options):
-        self.place = place and os.fsencode(place)
+    def __init__(self, core, folder, **options):
         self.options = {f'gbkeep_{key}'.encode(): value.encode() for key, value in options.items()}
         self.log, self.log_call = [], Log(lambda level, form, text: self.log.append(text.decode(errors='replace')))
         self.folder, self.told, self.buttons, self.looks, self.pixels, self.samples = os.fsencode(folder), [], 0, True, None, 0
@@ -151,8 +149,6 @@ class FrontEnd:
             asked.value = self.options[asked.key]
         elif what == GET_VARIABLE_UPDATE:
             ctypes.cast(data, ctypes.POINTER(ctypes.c_bool))[0] = True
-        elif what == GET_CORE and self.place:
-            ctypes.cast(data, ctypes.POINTER(ctypes.c_char_p))[0] = self.place
         elif what == GET_AUDIO_VIDEO_ENABLE and self.wanted is not None:
             ctypes.cast(data, ctypes.POINTER(ctypes.c_int))[0] = self.wanted
         elif what == SET_MEMORY_MAPS:
@@ -491,14 +487,13 @@ def test_memory(program, core, room):
 
 
 def test_carts(program, core, room):
-    """A colour game that runs on a DMG, as a front end unpacks it. It needs no program."""
+    """A colour game that runs on a DMG, as a front end unpacks it."""
     cart, folder = room / 'Colour Game.gbc', room / 'colours'
     folder.mkdir()
     rom = bytearray(CART.read_bytes())
     rom[0x143] = 0x80
     rom[0x14d] = -sum(byte + 1 for byte in rom[0x134:0x14d]) & 0xff
     cart.write_bytes(rom)
-    os.environ['GBKEEP'] = str(room / 'nothing')
     for _ in range(2):
         front = FrontEnd(core, folder, palette='grey')
         front.load(cart)
@@ -511,7 +506,6 @@ def test_carts(program, core, room):
         expect('nothing is told', front.told, [])
     expect('its inputs', count, 2 * 71)
     # an empty file, as a cut leaves it, is taken up; anything else stays
-    os.environ['GBKEEP'] = program
     save = folder / 'Colour Game.gbkeep'
     save.write_bytes(b'')
     front = FrontEnd(core, folder, messages='all')
@@ -543,86 +537,107 @@ def test_carts(program, core, room):
 
 
 def test_battery(program, core, room):
-    """The battery file of another core is told of, and imported where the option says so."""
+    """A new game begins with the battery file of another core, which is only read; the option leaves it, and one that is none of this game begins nothing."""
+    # a cartridge with a battery and a clock goes on from it, by the library alone
+    other, battery, cart = room / 'older', room / 'battery', room / 'clock.gb'
+    cart.write_bytes(Assembler().assemble(CLOCK))
+    subprocess.run([program, 'new', cart, other], check=True, capture_output=True)
+    (room / 'more').write_text('frames 00 60\nseconds 5000\nframes 00 60\n')
+    subprocess.run([program, 'play', cart, other, room / 'more'], check=True, capture_output=True)
+    subprocess.run([program, 'export', cart, other, battery], check=True, capture_output=True)
+    subprocess.run([program, 'import', cart, battery, room / 'by_program'], check=True, capture_output=True)
     for beside in (False, True):
         for suffix in ('.srm', '.sav'):
             folder, carts = room / f'battery{beside}{suffix}', room / f'carts{beside}{suffix}'
             folder.mkdir(), carts.mkdir()
-            cart = carts / 'demo.gb'
-            shutil.copy(CART, cart)
-            battery = (carts if beside else folder) / f'demo{suffix}'
-            battery.write_bytes(b'another file')
+            cart = Path(shutil.copy(room / 'clock.gb', carts))
+            there = (carts if beside else folder) / f'clock{suffix}'
+            shutil.copy(battery, there)
+            there.chmod(0o400)
+            before = there.stat()
             front = FrontEnd(core, folder)
             front.load(cart)
-            front.frames(0, 2)
+            expect('what is begun', (folder / 'clock.gbkeep').stat().st_size, (room / 'by_program').stat().st_size)
+            front.frames(0, 65)
             front.unload()
-            expect('a hint', (front.told, any(f"gbkeep import '{cart}' '{battery}'" in line for line in front.log)),
-                   ([f'A new game: NAME{suffix} is there; to import it, see the log'], True))
+            expect('it is told', (front.told, any(f'{there}: what it keeps' in line for line in front.log)), ([f'A new game with the save in clock{suffix}'], True))
+            with Game(cart, folder / 'clock.gbkeep', program) as game:
+                expect('its clock', 5000 <= seconds_shown(game) < 5000 + DAY, True)
+            after = there.stat()
+            expect('the other file', (there.read_bytes() == battery.read_bytes(), after.st_mtime_ns, after.st_ino), (True, before.st_mtime_ns, before.st_ino))
             front = FrontEnd(core, folder)
             front.load(cart)
             front.unload()
-            expect('no hint where there is a game', front.told, [])
-    # a cartridge with a battery goes on from it
+            expect('nothing where there is a game', front.told, [])
+    # the same first bytes as the program's
     folder, cart = room / 'imported', room / 'clock.gb'
     folder.mkdir()
-    cart.write_bytes(Assembler().assemble(CLOCK))
-    subprocess.run([program, 'new', cart, folder / 'older'], check=True, capture_output=True)
-    (folder / 'more').write_text('frames 00 60\nseconds 5000\nframes 00 60\n')
-    subprocess.run([program, 'play', cart, folder / 'older', folder / 'more'], check=True, capture_output=True)
-    subprocess.run([program, 'export', cart, folder / 'older', folder / 'clock.srm'], check=True, capture_output=True)
-    front = FrontEnd(core, folder, **{'import': 'yes'})
+    save, there = folder / 'clock.gbkeep', folder / 'clock.srm'
+    shutil.copy(battery, there)
+    front = FrontEnd(core, folder, messages='all')
+    front.load(cart)
+    front.unload()
+    shown = [shades_of(program, cart, path, room) for path in (save, room / 'by_program')]
+    expect('the game of the program', (shown[0] == shown[1], front.told[0]), (True, 'A new game with the save in clock.srm'))
+    # by the option a game begins without it
+    save.unlink()
+    front = FrontEnd(core, folder, **{'import': 'no'})
     front.load(cart)
     front.frames(0, 65)
     front.unload()
-    expect('an import', front.told, [])
-    with Game(cart, folder / 'clock.gbkeep', program) as game:
-        expect('its clock', seconds_shown(game) >= 5000, True)
-    # one that is refused begins nothing
-    (folder / 'clock.gbkeep').unlink()
-    (folder / 'clock.srm').write_bytes(b'wrong')
-    front = FrontEnd(core, folder, **{'import': 'yes'})
-    front.load(cart)
-    front.frames(0, 2)
-    front.unload()
-    expect('a wrong file', ('battery length 5' in front.told[0], (folder / 'clock.gbkeep').exists()), (True, False))
-    expect('what to do', any('What to do: use the file of this game' in line for line in front.log), True)
-    # an import is the program's: the one beside the core, where none is named
-    cores = room / 'cores'
-    cores.mkdir()
-    (cores / 'gbkeep').write_text(f'#!/bin/sh\necho it >> {cores}/ran\nexec {program} "$@"\n')
-    (cores / 'gbkeep').chmod(0o755)
-    (folder / 'clock.srm').write_bytes(bytes(8192))
-    del os.environ['GBKEEP']
-    front = FrontEnd(core, folder, cores / 'gbkeep_libretro.so', **{'import': 'yes'})
-    front.load(cart)
-    front.unload()
-    expect('the program beside the core', ((cores / 'ran').exists(), (folder / 'clock.gbkeep').exists()), (True, True))
-    (folder / 'clock.gbkeep').unlink()
-    os.environ['GBKEEP'] = str(room / 'nothing')
-    front = FrontEnd(core, folder, **{'import': 'yes'})
-    front.load(cart)
-    front.unload()
-    expect('no program', (any("can't be started" in line for line in front.log), (folder / 'clock.gbkeep').exists()), (True, False))
-    os.environ['GBKEEP'] = program
-
-
-def test_refused_imports(program, core, room):
-    """Each line that the program refuses an import with is told with what to do about it."""
-    folder, refuses = room / 'refused', room / 'refuses'
-    folder.mkdir()
-    (folder / 'demo.srm').write_bytes(b'wrong')
-    refuses.write_text(f"#!/bin/sh\ncat '{room}/line' >&2\nexit 1\n")
-    refuses.chmod(0o755)
-    os.environ['GBKEEP'] = str(refuses)
-    for fault in [fault for fault, of, _, _ in FAULTS if of in ('', 'import')]:
-        line = fault.replace('XX', '1F').replace('N', '12').replace('M', '34')
-        (room / 'line').write_text(f'gbkeep: {line}\n')
-        front = FrontEnd(core, folder, **{'import': 'yes'})
-        front.load(CART)
+    with Game(cart, save, program) as game:
+        expect('without it', (seconds_shown(game) < 5000, front.told), (True, []))
+    # one that is none of this game begins nothing, and is left as it is
+    for content in (b'', b'wrong', bytes(8191), bytes(8192 + 47), bytes(0x20000 + 48), bytes(0x20000 + 49), bytes(1 << 20)):
+        for path in folder.iterdir():
+            path.unlink()
+        there.write_bytes(content)
+        front = FrontEnd(core, folder)
+        front.load(cart)
+        front.frames(0, 302)
         front.unload()
-        advice = explained(line, 'import')[1].replace('`', '')
-        expect(f'what to do: {line}', (len(front.told), any(one.endswith(f'What to do: {advice}.') for one in front.log)), (1, True))
-    os.environ['GBKEEP'] = program
+        size = f'It has {len(content)} bytes, and a save of this game has 8240. What to do: '
+        expect('no file of this game', (front.told, sorted(path.name for path in folder.iterdir()), there.read_bytes() == content, any(size in line for line in front.log)),
+               (['clock.srm is no save of this game (see the log)'] * 2, [there.name], True, True))
+    # the RAM alone is one, as of a core that keeps no clock; and so is a link to one
+    there.write_bytes(bytes(8192))
+    for path in (there, folder / 'clock.sav'):
+        if path != there:
+            path.symlink_to(there.rename(folder / 'kept'))
+        save.unlink(missing_ok=True)
+        front = FrontEnd(core, folder)
+        front.load(cart)
+        front.unload()
+        expect('the RAM alone', (front.told, save.exists()), ([f'A new game with the save in {path.name}'], True))
+    path.unlink(), save.unlink()
+    # what is no file is no battery file
+    for make in (there.mkdir, lambda: os.mkfifo(there), lambda: there.symlink_to('/dev/zero'), lambda: there.symlink_to('nowhere'), lambda: there.symlink_to(there)):
+        make()
+        front = FrontEnd(core, folder)
+        front.load(cart)
+        front.unload()
+        expect('no file', (front.told, save.exists()), ([], True))
+        save.unlink(), there.rmdir() if there.is_dir() else there.unlink()
+    # a cartridge without a battery begins without it
+    (folder / 'demo.srm').write_bytes(bytes(8192))
+    rom = bytearray(CART.read_bytes())
+    rom[0x147], rom[0x149] = 0, 0
+    plain = room / 'demo.gb'
+    plain.write_bytes(rom)
+    front = FrontEnd(core, folder)
+    front.load(plain)
+    front.unload()
+    expect('no battery', (front.told, (folder / 'demo.gbkeep').exists()), (['A new game without demo.srm: there is no battery'], True))
+    # a long name has room on the screen
+    name = 'Zauberwälder, die Rückkehr der Könige (Schweiz, Österreich) (Änderung 2)'
+    long = Path(shutil.copy(cart, room / f'{name}.gb'))
+    for content, told in ((battery.read_bytes(), 'A new game with the save in Zauberwälder,..g 2).srm'), (b'wrong', 'Zauberwälder,..g 2).srm is no save of this game (see the log)')):
+        (folder / f'{name}.srm').write_bytes(content)
+        front = FrontEnd(core, folder)
+        front.load(long)
+        front.unload()
+        expect('a long name', front.told, [told])
+        (folder / f'{name}.gbkeep').unlink(missing_ok=True)
 
 
 def test_faults(program, core, room):
@@ -1093,11 +1108,10 @@ def main():
     if len(words) != 2:
         sys.exit(__doc__)
     program, core = (os.path.abspath(word) for word in words)
-    os.environ['GBKEEP'] = program
     with tempfile.TemporaryDirectory(prefix='libretro-') as folder:
         room = Path(folder)
         tests = (test_play, test_same, test_states, test_ahead, test_twice, test_closed_streams, test_memory, test_carts,
-                 test_battery, test_refused_imports, test_faults, test_disk, test_slow, test_power, test_options, test_clock, test_clock_back,
+                 test_battery, test_faults, test_disk, test_slow, test_power, test_options, test_clock, test_clock_back,
                  test_crafted_times, test_files_of_others, test_owner, test_clock_cut)
         for test in tests:
             test(program, core, room)

@@ -1,5 +1,5 @@
 #!/usr/bin/env python3
-"""Plays by the core in Debian's RetroArch, on a display of its own: a game in a .zip, without standard streams, states, rewind, reset, running ahead, and one
+"""Plays by the core in Debian's RetroArch, on a display of its own: a game in a .zip, another core's save, without standard streams, states, rewind, reset, running ahead, and one
 that is killed and goes on.
 
 usage: test_retroarch.py GBKEEP CORE     the status is 1 at the first difference
@@ -162,6 +162,19 @@ def plays(front, program, room):
     expect('all of it is saved', shades_of(program, CART, save, room)[1], front.told())
 
 
+def imports(front, program, room):
+    """A new game begins with the battery file of another core, and RetroArch writes nothing over that."""
+    battery, save = front.saves / 'other.srm', front.saves / 'other.gbkeep'
+    cart, before = shutil.copy(CART, room / 'other.gb'), bytes(range(256)) * 128
+    battery.write_bytes(before)
+    for first in ('A new game with the save in other.srm', 'resumed '):
+        log = front.play(cart, 100)
+        expect('what is told', (log[0].startswith(first), save.exists(), battery.read_bytes() == before), (True, True, True))
+    save.unlink()
+    battery.write_bytes(b'wrong')
+    expect('a wrong file', (front.play(cart, 100)[0], save.exists(), battery.read_bytes()), ('other.srm is no save of this game (see the log)', False, b'wrong'))
+
+
 def inputs_in(save):
     """The count of a SAVE that is being played; 0 where it holds no game."""
     try:
@@ -283,14 +296,13 @@ def main():
     if missing:
         sys.exit(f'test_retroarch.py: {", ".join(missing)} is missing: install retroarch and xvfb')
     program, core = (os.path.abspath(word) for word in sys.argv[1:])
-    os.environ['GBKEEP'] = program
     screen = Screen()
     try:
         with tempfile.TemporaryDirectory(prefix='retroarch-') as folder:
             room = Path(folder)
             front = RetroArch(core, room, screen)
             try:
-                for test in (plays, streams, states, ahead):
+                for test in (plays, imports, streams, states, ahead):
                     test(front, program, room)
                     print(f'RetroArch: {test.__name__}', flush=True)
             finally:
@@ -298,7 +310,7 @@ def main():
                     front.process.kill()
     finally:
         screen.close()
-    print('RetroArch: a game in a .zip, a SAVE in use, without standard streams, states, rewind, reset, running ahead, killed and gone on')
+    print('RetroArch: a game in a .zip, a SAVE in use, another core\'s save, without standard streams, states, rewind, reset, running ahead, killed and gone on')
 
 
 if __name__ == '__main__':
