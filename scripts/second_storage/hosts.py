@@ -24,7 +24,7 @@ class Wrong(Exception):
 
 def has_library():
     try:
-        library._library()
+        library.loaded()
     except library.Refused as why:
         note('hostile files, hosts of the library', why.line)
         return False
