@@ -130,9 +130,9 @@ def wrong_bodies(crate):
 
 def quoted(text):
     """A string of TOML, as it is where it can be."""
-    if "'" not in text:
+    if "\n" not in text and "'" not in text:
         return f"'{text}'"
-    if "\\" not in text and '"' not in text:
+    if "\n" not in text and "\\" not in text and '"' not in text:
         return f'"{text}"'
     return f"'''{text}'''" if "'''" not in text and not text.endswith("'") else '"' + text.replace("\\", "\\\\").replace('"', '\\"') + '"'
 
