@@ -84,14 +84,27 @@ enum { NUMBER = 8, STATE_MORE = 2 * NUMBER };
 static const long long LAST_SECOND = 99999999999;
 static const double FRAMES_A_SECOND = 4194304.0 / 70224;
 
-static const struct retro_variable VARIABLES[] = {
-    {"gbkeep_palette", "Palette; " PALETTE_CHOICE},
-    {"gbkeep_save_seconds", "Seconds between saves; 1|2|5|10|30"},
-    {"gbkeep_time_away", "Give the time away to a cartridge's clock; yes|no"},
-    {"gbkeep_messages", "Messages; refusals only|none|all"},
-    {"gbkeep_import", "Begin a new game with another core's save (NAME.srm or NAME.sav); yes|no"},
-    {NULL, NULL},
+#define IMPORT_OPTION "Begin with another core's save"
+
+/* The first value of each is the one that it has where nobody chooses. */
+static struct retro_core_option_v2_definition OPTIONS[] = {
+    {.key = "gbkeep_palette", .desc = "Palette", .info = "The colours of the four shades.", .values = {PALETTE_VALUES}},
+    {.key = "gbkeep_import", .desc = IMPORT_OPTION,
+     .info = "A game that has no NAME.gbkeep yet begins with what NAME.srm or NAME.sav keeps of the cartridge, if one lies in the save folder or beside the game. "
+             "That file is only read. Counts when the game is loaded.",
+     .values = {{"yes", "Yes"}, {"no", "No"}}},
+    {.key = "gbkeep_save_seconds", .desc = "Seconds between saves",
+     .info = "A power cut loses what was played since the last save. More seconds write less to an SD card.",
+     .values = {{"1", NULL}, {"2", NULL}, {"5", NULL}, {"10", NULL}, {"30", NULL}}},
+    {.key = "gbkeep_time_away", .desc = "Clock runs while you are away",
+     .info = "A game with a clock is given the time since it was last played, by the date of this device. Otherwise its clock stands still meanwhile. Counts when "
+             "the game is loaded.",
+     .values = {{"yes", "Yes"}, {"no", "No"}}},
+    {.key = "gbkeep_messages", .desc = "Messages", .info = "What is shown on the screen. The log has every line, and what to do about it.",
+     .values = {{"refusals only", "When it matters"}, {"none", "None"}, {"all", "All, saves too"}}},
+    {.key = NULL},
 };
+enum { MOST_OPTION_TEXT = 128 };
 
 /* the buttons of the Game Boy as bits 0 to 7 */
 static const unsigned BUTTONS[8] = {
@@ -850,6 +863,25 @@ static const char *option(const char *key) {
     return environment(RETRO_ENVIRONMENT_GET_VARIABLE, &asked) && asked.value ? asked.value : "";
 }
 
+/* Offers the options, with their help where the front end shows it. */
+static void offer_options(void) {
+    static char texts[sizeof OPTIONS / sizeof *OPTIONS][MOST_OPTION_TEXT];
+    struct retro_variable variables[sizeof OPTIONS / sizeof *OPTIONS] = {{NULL, NULL}};
+    struct retro_core_options_v2 options = {NULL, OPTIONS};
+    unsigned version = 0;
+    if (environment(RETRO_ENVIRONMENT_GET_CORE_OPTIONS_VERSION, &version) && version >= 2) {
+        environment(RETRO_ENVIRONMENT_SET_CORE_OPTIONS_V2, &options);
+        return;
+    }
+    for (unsigned one = 0; OPTIONS[one].key; one++) {
+        int size = snprintf(texts[one], MOST_OPTION_TEXT, "%s; ", OPTIONS[one].desc);
+        for (const struct retro_core_option_value *value = OPTIONS[one].values; value->value; value++)
+            size += snprintf(texts[one] + size, MOST_OPTION_TEXT - (size_t)size, "%s%s", value == OPTIONS[one].values ? "" : "|", value->value);
+        variables[one] = (struct retro_variable){OPTIONS[one].key, texts[one]};
+    }
+    environment(RETRO_ENVIRONMENT_SET_VARIABLES, variables);
+}
+
 static void read_options(void) {
     const char *palette = option("gbkeep_palette");
     game.palette = 0;
@@ -956,8 +988,8 @@ static void name_shortly(char name[MOST_NAME + 1], const char *path) {
 static bool refuse_battery(const char *path, const char *why) {
     char name[MOST_NAME + 1];
     name_shortly(name, path);
-    snprintf(game.fault, sizeof game.fault, "%s. What to do: put the right file there or take it away, or say no to the core's option to begin a new game with another core's "
-             "save. The file is %s", why, path);
+    snprintf(game.fault, sizeof game.fault, "%s. What to do: put the right file there or take it away, or say no to the core's option '" IMPORT_OPTION
+             "'. The file is %s", why, path);
     snprintf(game.shown, sizeof game.shown, "%s is no save of this game (see the log)", name);
     tell(REFUSAL, 600, game.fault, "%s", game.shown);
     return false;
@@ -1117,7 +1149,7 @@ RETRO_API void retro_get_system_av_info(struct retro_system_av_info *info) {
 RETRO_API void retro_set_environment(retro_environment_t given) {
     struct retro_log_callback logging;
     environment = given;
-    environment(RETRO_ENVIRONMENT_SET_VARIABLES, (void *)VARIABLES);
+    offer_options();
     /* RetroArch sets it again before the end, and then hands out no log */
     if (environment(RETRO_ENVIRONMENT_GET_LOG_INTERFACE, &logging))
         log_line = logging.log;

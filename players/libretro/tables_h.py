@@ -23,4 +23,4 @@ for colours in PALETTES:
     print(f"    {{{', '.join(f'0x{bytes(colour).hex()}' for colour in colours)}}},")
 print('};')
 print(f"static const char *const PALETTE_NAMES[] = {{{', '.join(map(quoted, NAMES))}}};")
-print(f"#define PALETTE_CHOICE {quoted('|'.join(NAMES))}")
+print(f"#define PALETTE_VALUES {', '.join(f'{{{quoted(name)}, NULL}}' for name in NAMES)}")

@@ -36,6 +36,7 @@ WIDTH, HEIGHT = 160, 144
 # a pixel of each shade, by the name of a palette
 COLOURS = {name: [int.from_bytes(colour, 'big') for colour in palette] for name, palette in zip(NAMES, PALETTES)}
 SET_MESSAGE, GET_SAVE_DIRECTORY, SET_PIXEL_FORMAT, GET_VARIABLE, SET_VARIABLES, GET_VARIABLE_UPDATE, GET_LOG = 6, 31, 10, 15, 16, 17, 27
+GET_OPTIONS_VERSION, SET_OPTIONS_V2 = 52, 67
 SET_MEMORY_MAPS, GET_AUDIO_VIDEO_ENABLE = 36 | 0x10000, 47 | 0x10000
 # what the front end wants of a frame: all, or nothing as it runs ahead; of the second instance by which it does so the picture, and no sound ever
 WANTED, UNWANTED, AHEAD = 3, 4, 13
@@ -109,6 +110,19 @@ class Variable(ctypes.Structure):
     _fields_ = [('key', ctypes.c_char_p), ('value', ctypes.c_char_p)]
 
 
+class OptionValue(ctypes.Structure):
+    _fields_ = [('value', ctypes.c_char_p), ('label', ctypes.c_char_p)]
+
+
+class Option(ctypes.Structure):
+    _fields_ = [*((name, ctypes.c_char_p) for name in ('key', 'desc', 'desc_categorized', 'info', 'info_categorized', 'category')),
+                ('values', OptionValue * 128), ('default', ctypes.c_char_p)]
+
+
+class Options(ctypes.Structure):
+    _fields_ = [('categories', ctypes.c_void_p), ('definitions', ctypes.POINTER(Option))]
+
+
 class Descriptor(ctypes.Structure):
     _fields_ = [('flags', ctypes.c_uint64), ('ptr', ctypes.c_void_p), ('offset', ctypes.c_size_t), ('start', ctypes.c_size_t), ('select', ctypes.c_size_t),
                 ('disconnect', ctypes.c_size_t), ('len', ctypes.c_size_t), ('addrspace', ctypes.c_char_p)]
@@ -119,9 +133,11 @@ class Map(ctypes.Structure):
 
 
 class FrontEnd:
-    """A front end of few lines: one core, one cartridge. `told` is what stands on the screen, `log` all that is logged, `map` what it may look at."""
+    """A front end of few lines: one core, one cartridge. `told` is what stands on the screen, `log` all that is logged, `map` what it may look at, `offered`
+    the options, which it takes in the form of this version."""
 
-    def __init__(self, core, folder, **options):
+    def __init__(self, core, folder, version=2, **options):
+        self.version = version
         self.options = {f'gbkeep_{key}'.encode(): value.encode() for key, value in options.items()}
         self.log, self.log_call = [], Log(lambda level, form, text: self.log.append(text.decode(errors='replace')))
         self.folder, self.told, self.buttons, self.looks, self.pixels, self.samples = os.fsencode(folder), [], 0, True, None, 0
@@ -161,6 +177,13 @@ class FrontEnd:
             while variables[len(self.offered)].key:
                 one = variables[len(self.offered)]
                 self.offered[one.key.decode()] = one.value.decode()
+        elif what == GET_OPTIONS_VERSION and self.version is not None:
+            ctypes.cast(data, ctypes.POINTER(ctypes.c_uint))[0] = self.version
+        elif what == SET_OPTIONS_V2 and self.version == 2:
+            given = ctypes.cast(data, ctypes.POINTER(Options)).contents
+            expect('categories', given.categories, None)
+            while given.definitions[len(self.offered)].key:
+                self.offered[given.definitions[len(self.offered)].key.decode()] = given.definitions[len(self.offered)]
         elif what != SET_PIXEL_FORMAT:
             return False
         return True
@@ -226,7 +249,7 @@ def test_play(program, core, room):
         shades, count = shades_of(program, CART, save, room)
         expect(f'the picture in {palette}', front.pixels, [colours[shade] for shade in shades])
         expect('sound', front.samples, 134 * 800)
-        expect('the palettes', front.offered['gbkeep_palette'], 'Palette; ' + '|'.join(NAMES))
+        expect('the palettes', values_of(front.offered['gbkeep_palette']), NAMES)
     expect('all inputs are saved', count, 4 * 134)
     expect('what is told', (front.told[0], front.told[-1]), (f'resumed {3 * 134}', f'saved {4 * 134}'))
     for messages, wanted in (('none', []), ('refusals only', ['This is no state of this game']), ('', ['This is no state of this game'])):
@@ -1017,10 +1040,28 @@ def test_clock_cut(program, core, room):
         expect(f'killed at {point}: told, and off', (told, off in (0, 1, 2), abs(game.given_until()[1] - time.time()) < 30), ([], True, True))
 
 
+def values_of(option):
+    """The values that an option of version 2 offers."""
+    values = []
+    while option.values[len(values)].value:
+        values.append(option.values[len(values)].value.decode())
+    return values
+
+
 def test_options(program, core, room):
-    """Options and counts that no front end offers."""
+    """Options as they are offered, by a front end that knows their help, and by older ones; and those, and counts, that no front end offers."""
     folder = room / 'options'
     folder.mkdir()
+    offered = FrontEnd(core, folder).offered
+    expect('the keys', list(offered), [f'gbkeep_{key}' for key in ('palette', 'import', 'save_seconds', 'time_away', 'messages')])
+    for key, option in offered.items():
+        info, values = option.info.decode(), values_of(option)
+        expect(f'{key}: a help text', (len(info) > 30, info[-1], len(values) > 1, option.default), (True, '.', True, None))
+        # a name that is longer is cut where a handheld's menu shows it beside a value
+        expect(f'{key}: its name', len(option.desc) <= 34, True)
+    for version in (None, 0, 1):
+        old = FrontEnd(core, folder, version=version).offered
+        expect(f'in the form of version {version}', old, {key: f"{option.desc.decode()}; {'|'.join(values_of(option))}" for key, option in offered.items()})
     for seconds in ('1073741824', '0', '-1', '99999999999999999999', '3601', 'many', '1 ', ''):
         front = FrontEnd(core, folder, save_seconds=seconds, palette='none', messages='all')
         front.load(CART)

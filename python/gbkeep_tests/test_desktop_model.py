@@ -634,7 +634,7 @@ def test_palettes():
     tables = subprocess.run([sys.executable, '-B', TOP / 'players/libretro/tables_h.py'], stdout=subprocess.PIPE, text=True, check=True).stdout
     colours = re.findall('0x([0-9a-f]{6})', re.search(r'PALETTES\[\]\[4\] = \{\n(.*?)^\};', tables, re.M | re.S)[1])
     expect('the core', colours, [bytes(colour).hex() for palette in PALETTES for colour in palette])
-    expect('what the core offers', re.findall(r'PALETTE_CHOICE "(.*)"', tables), ['|'.join(NAMES)])
+    expect('what the core offers', re.findall(r'\{"(\w+)", NULL\}', tables), NAMES)
 
 
 def test_the_model_knows_no_toolkit():
