@@ -291,6 +291,8 @@ test:
 	python3 -B scripts/edits.py --apply
 # what tells the cost of a command ends as the command does
 	! python3 -B scripts/gate_cost.py false > /dev/null
+# rt ci takes no links; the library, whose name is one, is built behind it
+	rm -f bin/libgbkeep.so.0 bin/arm64/libgbkeep.so.0
 # a proof by one process: each more reads its libraries again
 	RT_JOBS=$$(python3 -B -c 'from scripts.build import jobs; print(jobs())') python3 -B scripts/gate_cost.py $(RT) ci
 	python3 -B scripts/program_tests/run.py $(PROGRAM)/out/gbkeep_program
