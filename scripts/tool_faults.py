@@ -350,7 +350,11 @@ class Room:
 def wrong_with(room: Room, run: Run, at: int, fault: int, name: str, done: dict[str, bytes]) -> str:
     """What is wrong with a run whose call with this number fails so, or nothing."""
     room.fresh()
-    status, err = room.run(run, at, fault)
+    log = room.folder.with_name('calls')
+    log.unlink(missing_ok=True)
+    status, err = room.run(run, at, fault, log)
+    # a pipe does not take as many reads each time: which call it was is told by the run itself
+    name = dict(enumerate(log.read_text().split(), 1)).get(at, name) if log.exists() else name
     if 'Traceback' in err or 'Exception' in err or 'Error' in err:
         return err[-1500:]
     is_cut = fault in (KILL, HANG) and status in (-signal.SIGKILL, 128 + signal.SIGTERM)
