@@ -379,7 +379,9 @@ def wrong_files(room: Room, run: Run, left: dict[str, bytes], done: dict[str, by
             is_whole = run.changes[name] or done[name].__eq__
             if after != before and (after is None or not is_whole(after)) or is_done and name in done and (after is None or not is_whole(after)):
                 return f'{name} has {len(after or b"")} bytes, {after!r:.60}'
-        elif after != before and not (before is None and may_leave and (name.startswith('tmp/') or '.gbkeep-' in name or name.startswith('clock.gbkeep.before'))):
+        # a picture that is made again has the next number
+        elif after != before and not (before is None and may_leave and (name.startswith('tmp/') or '.gbkeep-' in name or name.startswith('clock.gbkeep.before') or
+                                                                        name == 'clock 2.png' and after == done.get('clock 1.png'))):
             return f'{name} is gone' if after is None else f'{name} is changed' if before is not None else f'{name} is left'
     if run.tool in ('window keep', 'window back') and not set(games(room.held)) <= set(games(left)):
         return 'a game is lost'
