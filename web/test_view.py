@@ -564,6 +564,12 @@ class Said(Viewed):
             self.assertEqual(page.state_of(), 'playing')
             page.until(lambda: page.count() > count + 30, 'the game does not go on')
             self.assertEqual(page.js("return getComputedStyle(document.getElementById('drop')).display"), 'none')
+        # a battery file of its name that is none of its cartridge
+        self.drop('demo.sav', bytes(77))
+        self.assertIn('demo.sav belongs to GBKEEP DEMO', page.question())
+        page.answer(True)
+        page.until_text('demo.sav: battery length')
+        self.assertEqual(page.state_of(), 'playing')
         # another game is asked for
         count = page.count()
         self.drop('passes.gb', self.carts['passes'].read_bytes())

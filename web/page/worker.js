@@ -102,10 +102,12 @@ const answers = {
   /** Opens a game in place of the one that is open, which goes on where this one can't be opened. */
   async open({ id: named = null, rom = null, name = null, anew = false, battery = null, paused = false, max = false, test = false }) {
     const library = await loaded();
-    if (rom) {
-      tryCartridge(library, rom, battery);
-    }
     const id = rom ? await sha256(rom) : named;
+    // the game that is open gives way to one of its own cartridge before that one is opened
+    const tried = rom ?? (player.game?.id === id ? player.game?.rom : null);
+    if (tried) {
+      tryCartridge(library, tried, battery);
+    }
     if (player.game !== null) {
       player.keep();
       if (player.game?.id === id) {
