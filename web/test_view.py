@@ -537,14 +537,15 @@ class Said(Viewed):
         """Each refusal is shown, also the second and the third, and one with the words of the one before."""
         rom = bytearray(self.carts['demo'].read_bytes())
         rom[0x147] = 0xfc
-        files = {'kind.gb': bytes(rom), 'alone.sav': bytes(100), 'foreign.gbkeep': b'GBKPROOT' + bytes(1100)}
+        files = {'kind.gb': bytes(rom), 'alone.sav': bytes(100), 'foreign.gbkeep': b'GBKPROOT' + bytes(1100), 'large.zip': bytes((32 << 20) + 1)}
         for name, content in files.items():
             (self.room / name).write_bytes(content)
         other = Browser(self.room / 'refusals')
         try:
             page = Page(other).open(self.server.url())
             for name, words in (('kind.gb', 'kind.gb: cartridge type'), ('alone.sav', 'alone.sav: the cartridge of this battery file is not known'),
-                                ('foreign.gbkeep', 'foreign.gbkeep: the cartridge of this SAVE is not here'), ('foreign.gbkeep', 'foreign.gbkeep: the cartridge')):
+                                ('foreign.gbkeep', 'foreign.gbkeep: the cartridge of this SAVE is not here'), ('foreign.gbkeep', 'foreign.gbkeep: the cartridge'),
+                                ('large.zip', 'large.zip: this file is too large')):
                 before = int(page.status()['number'])
                 page.give(self.room / name)
                 page.until(lambda: int(page.status()['number']) > before and words in page.text(), f'{name}: nothing is said')

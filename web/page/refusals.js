@@ -29,6 +29,7 @@ const OWN = {
   oldest: ['there is no older state', 'a game can be rewound by a minute at most, and not to before it was opened; the timeline goes further', 'play on'],
   closed: ['no game is open', 'there is nothing to play', 'open a cartridge'],
   long: ['device size', 'a save file has 65,536 sectors of 512 bytes at most', 'choose a save file'],
+  large: ['this file is too large', 'no game and no save file is larger than 32 MiB', 'choose another file'],
   colour: ['this game is for the Game Boy Color alone', 'this page plays the games of the first Game Boy, and those that run on both', 'choose another game'],
   strange: ['this file is no game', 'it is no cartridge (.gb, .gbc), no zip with one, no battery file (.sav) and no save file (.gbkeep)', 'choose another file'],
   more: ['it was left out', 'another file of its kind was chosen with it', 'choose one of each kind'],

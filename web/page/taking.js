@@ -4,7 +4,6 @@ import { Refused, lineOf } from './refusals.js';
 import { planOf } from './words.js';
 
 const MOST_FILE = 65536 * 512;
-const ROM_LENGTH = 2;
 
 export class Taking {
   #page;
@@ -50,7 +49,7 @@ export class Taking {
    */
   async read(file) {
     if (file.size > MOST_FILE) {
-      throw Refused.of(ROM_LENGTH);
+      throw Refused.own('large');
     }
     try {
       return { name: file.name, bytes: new Uint8Array(await file.arrayBuffer()) };
