@@ -551,6 +551,12 @@ class Said(Viewed):
                 page.until(lambda: int(page.status()['number']) > before and words in page.text(), f'{name}: nothing is said')
                 self.assertEqual(page.js("return [...document.querySelectorAll('.toast.refused p')].at(-1).textContent").split('.')[0], page.text().split('.')[0])
                 self.assertEqual(page.state_of(), 'refused')
+            # the first game of this browser is in the list as soon as it is played
+            page.demo()
+            page.until_state('playing')
+            page.give(self.room / 'alone.sav')
+            page.until(lambda: page.is_open('pick'), 'nobody asks whose it is')
+            self.assertEqual(page.js("return [...document.querySelectorAll('#pick-list button')].map((one) => one.textContent)"), ['GBKEEP DEMO'])
         finally:
             other.close()
 

@@ -60,7 +60,7 @@ export class Taking {
 
   /** @param {File[]} given */
   async take(given) {
-    const { client, dialogs, store } = this.#page;
+    const { client, dialogs, home, store } = this.#page;
     const files = [];
     for (const file of given) {
       try {
@@ -75,6 +75,10 @@ export class Taking {
     /** @type {Looked} */
     const look = await client.ask('look', { files });
     look.refused.forEach((one) => this.#page.refuse(one, one.name));
+    if (look.battery && !look.cart) {
+      // the list is older than the game that is played
+      await home.list();
+    }
     const rows = store.now.rows ?? [];
     const plan = planOf(look, rows.length, store.now.game?.title ?? null);
     const { cart, battery, save } = look;
