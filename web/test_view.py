@@ -585,6 +585,12 @@ class Said(Viewed):
         page.answer(False)
         page.until(lambda: page.count() > count + 30, 'the game does not go on')
         self.assertEqual(page.js("return document.getElementById('title').textContent"), 'GBKEEP DEMO')
+        # what is asked last is what is answered
+        for name in ('passes', 'prints'):
+            self.drop(f'{name}.gb', self.carts[name].read_bytes())
+            page.until(lambda: f'{name}.gb is' in page.question(), f'{name}.gb is not asked about')
+        page.answer(True)
+        page.until(lambda: page.js("return document.getElementById('title').textContent") == 'TEST PRINTS', 'it is not played')
 
     def test_zip(self):
         """A game in a zip is played; a game for the Color alone is told so, and a zip without a game."""

@@ -67,11 +67,25 @@ export class Dialogs {
   }
 
   /**
+   * Leaves a dialog without an answer where it is open: what is asked last is what is meant.
+   * @param {string} id
+   */
+  async #leave(id) {
+    const dialog = dialogOf(id);
+    if (dialog.open) {
+      const left = new Promise((done) => dialog.addEventListener('close', done, { once: true }));
+      dialog.close();
+      await left;
+    }
+  }
+
+  /**
    * Asks a question: true, false, or null where it was left without an answer.
    * @param {Question} question
    * @returns {Promise<boolean | null>}
    */
   async ask({ text, more = '', yes, no = 'Cancel', isGrave = false }) {
+    await this.#leave('question');
     $('question-text').textContent = text;
     $('question-more').textContent = more;
     $('question-more').hidden = more === '';
@@ -97,6 +111,7 @@ export class Dialogs {
    * @returns {Promise<number | null>}
    */
   async pick(text, labels) {
+    await this.#leave('pick');
     $('pick-text').textContent = text;
     /** @type {number | null} */
     let taken = null;
