@@ -571,6 +571,12 @@ class Said(Viewed):
             self.assertEqual(page.state_of(), 'playing')
             page.until(lambda: page.count() > count + 30, 'the game does not go on')
             self.assertEqual(page.js("return getComputedStyle(document.getElementById('drop')).display"), 'none')
+        # words that are dragged are no file
+        self.page.js("""
+            const given = new DataTransfer();
+            given.setData('text/plain', 'words');
+            document.dispatchEvent(new DragEvent('dragenter', { dataTransfer: given, bubbles: true, cancelable: true }));""")
+        self.assertEqual(page.js("return getComputedStyle(document.getElementById('drop')).display"), 'none')
         # a battery file of its name that is none of its cartridge
         self.drop('demo.sav', bytes(77))
         self.assertIn('demo.sav belongs to GBKEEP DEMO', page.question())

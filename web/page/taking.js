@@ -22,16 +22,19 @@ export class Taking {
     }
     let depth = 0;
     const over = (/** @type {boolean} */ isOver) => document.documentElement.classList.toggle('dropping', isOver);
+    // words and links are dragged, too, and are none
+    const moved = (/** @type {DragEvent} */ event, /** @type {number} */ by) => {
+      if (event.dataTransfer?.types.includes('Files')) {
+        depth += by;
+        over(depth > 0);
+      }
+    };
     document.addEventListener('dragenter', (event) => {
       event.preventDefault();
-      depth += 1;
-      over(true);
+      moved(event, 1);
     });
     document.addEventListener('dragover', (event) => event.preventDefault());
-    document.addEventListener('dragleave', () => {
-      depth -= 1;
-      over(depth > 0);
-    });
+    document.addEventListener('dragleave', (event) => moved(event, -1));
     document.addEventListener('drop', (event) => {
       event.preventDefault();
       depth = 0;
