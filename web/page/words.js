@@ -127,7 +127,12 @@ export function welcome(seconds) {
  * @param {number} seconds
  * @param {boolean} isOldest
  */
-export const rewoundBy = (seconds, isOldest) => `Rewound by ${seconds.toFixed(1)} seconds${isOldest ? ', as far as it goes' : ''}.`;
+export function rewoundBy(seconds, isOldest) {
+  if (isOldest && seconds < 0.05) {
+    return said('nothing to go back to');
+  }
+  return `Rewound by ${seconds.toFixed(1)} seconds${isOldest ? ', as far as it goes' : ''}.`;
+}
 
 /** What a browser does with games, for the home page. */
 export const KEEPS = {

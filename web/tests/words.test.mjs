@@ -1,7 +1,7 @@
 // What is said, and what is asked of files.
 import assert from 'node:assert/strict';
 import test from 'node:test';
-import { before, fileName, planOf, playedFor, sizeOf, standingLine, welcome, when } from '../page/words.js';
+import { before, fileName, planOf, playedFor, rewoundBy, sizeOf, standingLine, welcome, when } from '../page/words.js';
 
 const CALM = { keeps: 'kept', isPaused: false, isWaiting: false, isTouch: false, isAllSaved: false, unsaved: 0.4, rewound: null, pauseKey: 'P' };
 
@@ -17,6 +17,12 @@ test('the line under the title', () => {
   assert.equal(line({ rewound: 2.44, isPaused: true }).text, 'back 2.4 s');
   assert.deepEqual(line({ keeps: 'memory' }), { text: 'not kept', kind: 'loud' });
   assert.equal(line({ keeps: 'window' }).text, 'kept until this window is closed');
+});
+
+test('how far a game was rewound', () => {
+  assert.equal(rewoundBy(2.44, false), 'Rewound by 2.4 seconds.');
+  assert.equal(rewoundBy(2.44, true), 'Rewound by 2.4 seconds, as far as it goes.');
+  assert.equal(rewoundBy(0, true), 'There is nothing to go back to.');
 });
 
 test('when, and for how long', () => {
