@@ -171,14 +171,17 @@ static struct {
     struct clock_text note;
     /* a state or the power switch is unsaved: the next save writes a whole state */
     bool is_whole;
+    /* `state` is that behind the last input */
+    bool has_state;
     gbkeep_clock clock;
     bool clock_stands;
     uint8_t shades[SHADES];
     char fault[512], shown[MOST_SHOWN + 1];
 } game = {.file = -1};
 
-/* the address space, as far as the front end sees it; it outlives a game, since the front end has its address */
+/* the address space, as far as the front end sees it, and whether that has its address; it outlives a game */
 static uint8_t view[0x10000];
+static bool is_looked_at;
 
 /* threads that were left behind */
 static atomic_int left;
@@ -665,6 +668,7 @@ static bool give_seconds(void) {
     uint32_t passed = gbkeep_clock_give(&game.clock);
     if (passed == 0)
         return true;
+    game.has_state = false;
     uint32_t code = gbkeep_session_seconds(game.session, passed);
     if (code != GBKEEP_DONE)
         return give_up_by(code);
@@ -825,12 +829,22 @@ static bool was_given(uint32_t code) {
 
 /* ---- what the front end may look at */
 
+/* The state: encoded once behind an input, whoever wants it. */
+static const uint8_t *state_now(void) {
+    if (!game.has_state && game.session)
+        gbkeep_session_state(game.session, game.state, game.state_length);
+    else if (!game.has_state)
+        gbkeep_machine_state(game.machine, game.state, game.state_length);
+    game.has_state = true;
+    return game.state;
+}
+
+/* Shows the memory to a front end that has asked for it. */
 static void look_into(void) {
     size_t ram = game.state_length - STATE_CART_RAM;
-    if (game.session)
-        gbkeep_session_state(game.session, game.state, game.state_length);
-    else
-        gbkeep_machine_state(game.machine, game.state, game.state_length);
+    if (!is_looked_at || !game.session)
+        return;
+    state_now();
     memcpy(view + 0x8000, game.state + STATE_VRAM, 0x2000);
     memcpy(view + 0xa000, game.state + STATE_CART_RAM, ram < 0x2000 ? ram : 0x2000);
     memcpy(view + 0xc000, game.state + STATE_WRAM, 0x2000);
@@ -852,8 +866,9 @@ static void show_memory(void) {
     struct retro_memory_map map = {PARTS, sizeof PARTS / sizeof *PARTS};
     memset(view, 0, sizeof view);
     memcpy(view, game.rom, 0x4000);
+    if (environment(RETRO_ENVIRONMENT_SET_MEMORY_MAPS, &map))
+        is_looked_at = true;
     look_into();
-    environment(RETRO_ENVIRONMENT_SET_MEMORY_MAPS, &map);
 }
 
 /* ---- options */
@@ -1203,6 +1218,7 @@ static void tell_unsaved(int wanted) {
 
 /* Gives the game a frame, and saves it where that is due. */
 static bool play_frame(uint8_t buttons) {
+    game.has_state = false;
     if (game.machine) {
         gbkeep_machine_frames(game.machine, buttons, 1);
         return true;
@@ -1239,8 +1255,7 @@ RETRO_API void retro_run(void) {
             gbkeep_session_picture(game.session, game.shades, SHADES);
         else if (wanted & IS_SHOWN)
             gbkeep_machine_picture(game.machine, game.shades, SHADES);
-        if (game.session)
-            look_into();
+        look_into();
     } else if (game.fault[0] && game.shown_frames % 300 == 0) {
         tell(REFUSAL, 300, NULL, "%s", game.shown);
     }
@@ -1254,6 +1269,7 @@ RETRO_API void retro_run(void) {
 
 /* The power switch. */
 RETRO_API void retro_reset(void) {
+    game.has_state = false;
     if (game.machine) {
         gbkeep_machine_power(game.machine);
     } else if (game.session && look_around() && has_room()) {
@@ -1263,8 +1279,7 @@ RETRO_API void retro_reset(void) {
         else
             game.is_whole = was_given(code);
     }
-    if (game.session || game.machine)
-        look_into();
+    look_into();
 }
 
 static void put_number(uint8_t *bytes, unsigned long long number) {
@@ -1291,7 +1306,8 @@ RETRO_API bool retro_serialize(void *data, size_t size) {
         return false;
     put_number(bytes + length, game.clock.until);
     put_number(bytes + length + NUMBER, game.frame);
-    return (game.session ? gbkeep_session_state(game.session, bytes, length) : gbkeep_machine_state(game.machine, bytes, length)) == GBKEEP_DONE;
+    memcpy(bytes, state_now(), length);
+    return true;
 }
 
 /* The clock of a state is behind: it is given the seconds since, in front of the next save, as far as they would be given to a game that was away. */
@@ -1311,6 +1327,7 @@ RETRO_API bool retro_unserialize(const void *data, size_t size) {
         return false;
     /* one that is cut short is refused by the library, which is given less than it takes */
     size_t given = size >= length + STATE_MORE ? length : size < length ? size : length - 1;
+    game.has_state = false;
     uint32_t code = game.session ? gbkeep_session_restore(game.session, bytes, given) : gbkeep_machine_restore(game.machine, bytes, given);
     if (code == GBKEEP_OTHER_CARTRIDGE)
         tell(REFUSAL, 300, "The state names another ROM. A ROM of another version, or one that was patched, is another game. What to do: load the game that it is of.",
@@ -1328,7 +1345,13 @@ RETRO_API bool retro_unserialize(const void *data, size_t size) {
 }
 
 /* The front end sees the system's memory. It gets no save memory, and its cheats change nothing. */
-RETRO_API void *retro_get_memory_data(unsigned id) { return id == RETRO_MEMORY_SYSTEM_RAM ? view + 0xc000 : NULL; }
+RETRO_API void *retro_get_memory_data(unsigned id) {
+    if (id != RETRO_MEMORY_SYSTEM_RAM)
+        return NULL;
+    is_looked_at = true;
+    look_into();
+    return view + 0xc000;
+}
 RETRO_API size_t retro_get_memory_size(unsigned id) { return id == RETRO_MEMORY_SYSTEM_RAM ? 0x2000 : 0; }
 RETRO_API void retro_cheat_reset(void) {}
 RETRO_API void retro_cheat_set(unsigned index, bool enabled, const char *code) { (void)index, (void)enabled, (void)code; }

@@ -136,8 +136,8 @@ class FrontEnd:
     """A front end of few lines: one core, one cartridge. `told` is what stands on the screen, `log` all that is logged, `map` what it may look at, `offered`
     the options, which it takes in the form of this version."""
 
-    def __init__(self, core, folder, version=2, **options):
-        self.version = version
+    def __init__(self, core, folder, version=2, maps=True, **options):
+        self.version, self.maps = version, maps
         self.options = {f'gbkeep_{key}'.encode(): value.encode() for key, value in options.items()}
         self.log, self.log_call = [], Log(lambda level, form, text: self.log.append(text.decode(errors='replace')))
         self.folder, self.told, self.buttons, self.looks, self.pixels, self.samples = os.fsencode(folder), [], 0, True, None, 0
@@ -167,7 +167,7 @@ class FrontEnd:
             ctypes.cast(data, ctypes.POINTER(ctypes.c_bool))[0] = True
         elif what == GET_AUDIO_VIDEO_ENABLE and self.wanted is not None:
             ctypes.cast(data, ctypes.POINTER(ctypes.c_int))[0] = self.wanted
-        elif what == SET_MEMORY_MAPS:
+        elif what == SET_MEMORY_MAPS and self.maps:
             given = ctypes.cast(data, ctypes.POINTER(Map)).contents
             self.map = {part.start: (part.ptr + part.offset, part.len) for part in given.descriptors[:given.count]}
         elif what == GET_LOG:
@@ -507,6 +507,28 @@ def test_memory(program, core, room):
         size, data = front.core.retro_get_memory_size(SYSTEM_RAM), front.core.retro_get_memory_data(SYSTEM_RAM)
         expect('the system\'s RAM', ctypes.string_at(data, size) == seen[0xc000], True)
         front.unload()
+    # a front end that takes no map, and asks for the RAM once, later than it takes states; another copy of the core, since one that was asked knows it for good
+    copy = shutil.copy(core, room / 'memory.so')
+    front = FrontEnd(copy, room / 'memory', maps=False)
+    (folder / 'demo.gbkeep').unlink()
+    front.load(CART)
+    with Machine(CART.read_bytes()) as machine:
+        kept, data = machine.state(), None
+        for step in range(60):
+            if step == 30:
+                data = front.core.retro_get_memory_data(SYSTEM_RAM)
+            if step % 10 == 7:
+                front.core.retro_reset(), machine.power()
+            elif step % 10 == 8:
+                front.restore(kept + bytes(MORE)), machine.restore(kept)
+            else:
+                front.frames(step, 3), machine.frames(step, 3)
+            if step % 3 == 0:
+                expect('a state is that of now', front.state()[:-MORE] == machine.state(), True)
+                kept = machine.state()
+            if data:
+                expect('the RAM of now', ctypes.string_at(data, 0x2000) == machine.memory(0xc000, 0x2000), True)
+    front.unload()
 
 
 def test_carts(program, core, room):
