@@ -67,8 +67,8 @@ enum { IS_SHOWN = 1, HAS_NO_SOUND = 8 };
 enum { FRAMES_UNSAVED = 3600 };
 /* what is shown at once has room on the smallest screen */
 enum { MOST_SHOWN = 64, MOST_LINE = 64, MOST_NAME = 24 };
-/* another core's battery file: the largest RAM, and the registers of a clock */
-enum { MOST_BATTERY = 0x20000 + 48 };
+/* another core's battery file: the largest RAM, and the registers of a clock; and how many are kept aside */
+enum { MOST_BATTERY = 0x20000 + 48, MOST_KEPT = 99 };
 /* where a state has what the front end may look at: it is a header, which names the ROM, and a snapshot (docs/SNAPSHOT.md) */
 enum {
     STATE_HEADER = 40,
@@ -93,6 +93,10 @@ static struct retro_core_option_v2_definition OPTIONS[] = {
      .info = "A game that has no NAME.gbkeep yet begins with what NAME.srm or NAME.sav keeps of the cartridge, if one lies in the save folder or beside the game. "
              "That file is only read. Counts when the game is loaded.",
      .values = {{"yes", "Yes"}, {"no", "No"}}},
+    {.key = "gbkeep_export", .desc = "Leave a save for other cores",
+     .info = "At the end of the game NAME.srm is written in the save folder, with what the cartridge keeps, to go on in another core. A file of another core's that is "
+             "there is kept as NAME.srm.1, NAME.srm.2 and so on.",
+     .values = {{"no", "No"}, {"yes", "Yes"}}},
     {.key = "gbkeep_save_seconds", .desc = "Seconds between saves",
      .info = "A power cut loses what was played since the last save. More seconds write less to an SD card.",
      .values = {{"1", NULL}, {"2", NULL}, {"5", NULL}, {"10", NULL}, {"30", NULL}}},
@@ -160,7 +164,7 @@ static struct {
     size_t rom_length, state_length;
     uint32_t sectors;
     char cart[PATH_MAX], save[PATH_MAX], clock_file[PATH_MAX];
-    bool has_clock, gives_time_away, is_new, imports;
+    bool has_clock, gives_time_away, is_new, imports, exports;
     enum messages messages;
     unsigned palette, save_frames, shown_frames, unsaved_frames;
     /* The number of the last frame, which a state takes back, and of the one before the last save; and how many were played since that. */
@@ -912,6 +916,7 @@ static void read_options(void) {
     const char *messages = option("gbkeep_messages");
     game.messages = strcmp(messages, "all") == 0 ? ALL : strcmp(messages, "none") == 0 ? NONE : REFUSALS_ONLY;
     game.imports = strcmp(option("gbkeep_import"), "no") != 0;
+    game.exports = strcmp(option("gbkeep_export"), "yes") == 0;
 }
 
 /* ---- taking up a game */
@@ -1138,6 +1143,67 @@ static bool take_up(void) {
     return true;
 }
 
+/* ---- going back to another core */
+
+/* Whether a plain file has these bytes. */
+static bool has_bytes(const char *path, const uint8_t *bytes, size_t length) {
+    size_t found;
+    uint8_t *there = read_file(path, O_NOFOLLOW, MOST_BATTERY, &found);
+    bool is_same = there && found == length && memcmp(there, bytes, length) == 0;
+    free(there);
+    return is_same;
+}
+
+/* Keeps a copy of these bytes beside a file, under its name with the first number that is free: answers that, or 0. */
+static int keep_aside(int folder, const char *name, const uint8_t *bytes, size_t length) {
+    char kept[NAME_MAX + 8];
+    int number = 0;
+    do {
+        snprintf(kept, sizeof kept, "%s.%d", name, ++number);
+    } while (number < MOST_KEPT && about(folder, kept, AT_SYMLINK_NOFOLLOW).stx_mode != 0);
+    return about(folder, kept, AT_SYMLINK_NOFOLLOW).stx_mode == 0 && put_file(folder, kept, bytes, length, -1, game.file) ? number : 0;
+}
+
+/* Puts these bytes in the place of NAME.srm, durably. What is there stays, under another name, but for what the core has put there itself, of which
+ * NAME.gbkeep.battery is a copy. */
+static bool put_battery(const char *path, const char *mark, const uint8_t *bytes, size_t length, int *kept) {
+    char folder_path[PATH_MAX];
+    const char *name, *mark_name = strrchr(mark, '/') + 1;
+    size_t old_length = 0;
+    bool is_there = exists(path);
+    uint8_t *old = is_there ? read_file(path, O_NOFOLLOW, MOST_BATTERY, &old_length) : NULL;
+    memcpy(folder_path, path, sizeof folder_path);
+    int folder = open_folder(folder_path, &name);
+    bool good = folder >= 0 && (!is_there || (old && old_length <= MOST_BATTERY)) && (!exists(mark) || S_ISREG(about(AT_FDCWD, mark, AT_SYMLINK_NOFOLLOW).stx_mode));
+    if (good && is_there && !has_bytes(mark, old, old_length))
+        good = (*kept = keep_aside(folder, name, old, old_length)) != 0;
+    good = good && put_file(folder, name, bytes, length, -1, game.file) && put_file(folder, mark_name, bytes, length, -1, game.file);
+    free(old);
+    close_one(&folder);
+    return good;
+}
+
+/* Leaves NAME.srm for other cores. */
+static void leave_battery(void) {
+    char path[PATH_MAX], mark[PATH_MAX], name[MOST_NAME + 1];
+    size_t length = gbkeep_session_battery_length(game.session);
+    int kept = 0;
+    uint8_t *bytes = malloc(length + 1);
+    uint32_t code = bytes ? gbkeep_session_battery(game.session, bytes, length) : GBKEEP_NO_MEMORY;
+    snprintf(path, sizeof path, "%.*s.srm", (int)(strlen(game.save) - strlen(".gbkeep")), game.save);
+    bool good = snprintf(mark, sizeof mark, "%s.battery", game.save) < PATH_MAX && code == GBKEEP_DONE;
+    if (code != GBKEEP_NO_BATTERY && !(good && has_bytes(path, bytes, length))) {
+        name_shortly(name, path);
+        if (!good || !put_battery(path, mark, bytes, length, &kept))
+            tell(REFUSAL, 600, path, "%s can't be written for other cores", name);
+        else if (kept)
+            tell(REFUSAL, 600, path, "%s is written; the one before ends in .%d", name, kept);
+        else
+            tell(NEWS, 120, path, "%s is written", name);
+    }
+    free(bytes);
+}
+
 /* ---- the interface */
 
 RETRO_API unsigned retro_api_version(void) {
@@ -1181,8 +1247,8 @@ RETRO_API void retro_deinit(void) {}
 RETRO_API unsigned retro_get_region(void) { return RETRO_REGION_NTSC; }
 
 RETRO_API void retro_unload_game(void) {
-    if (game.session)
-        save_game();
+    if (game.session && save_game() && game.exports)
+        leave_battery();
     end_game();
 }
 

@@ -110,7 +110,7 @@ def one_run(core, room, seed):
         battery = folder / rnd.choice(['x.srm', 'x.sav'])
         rnd.choice([lambda: battery.write_bytes(rnd.randbytes(rnd.choice([0, 5, 512, 2048, 8192, 8240, 32768, 1 << 20])))] * 6
                    + [lambda: os.mkfifo(battery), battery.mkdir, lambda: battery.symlink_to('/dev/zero'), lambda: battery.symlink_to(battery)])()
-    options = {option: rnd.choice(WORDS) for option in ('palette', 'save_seconds', 'time_away', 'messages', 'import')}
+    options = {option: rnd.choice(WORDS) for option in ('palette', 'save_seconds', 'time_away', 'messages', 'import', 'export')}
     front, states = FrontEnd(core, folder, **options), [None]
     front.looks = False
     # a front end may ask before anything is loaded

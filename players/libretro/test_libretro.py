@@ -685,6 +685,88 @@ def test_battery(program, core, room):
         (folder / f'{name}.gbkeep').unlink(missing_ok=True)
 
 
+def test_battery_left(program, core, room):
+    """At the game's end a battery file is left for other cores, where the option says so: what `export` writes; what another core has put there stays."""
+    folder, cart = room / 'left', room / 'clock.gb'
+    folder.mkdir()
+    cart.write_bytes(Assembler().assemble(CLOCK))
+    save, left, mark = (folder / f'clock{suffix}' for suffix in ('.gbkeep', '.srm', '.gbkeep.battery'))
+
+    def play(*told, export='yes', frames=70, **more):
+        """Plays, and wants that to be told at the end; what the program exports then."""
+        front = FrontEnd(core, folder, export=export, **more)
+        front.load(cart)
+        front.frames(A, frames)
+        shown = len(front.told)
+        front.unload()
+        expect('what is told', front.told[shown:], list(told))
+        out = room / 'exported'
+        out.unlink(missing_ok=True)
+        subprocess.run([program, 'export', cart, save, out], check=True, capture_output=True)
+        return out.read_bytes()
+
+    def seconds(count):
+        (room / 'more').write_text(f'frames 00 60\nseconds {count}\nframes 00 60\n')
+        subprocess.run([program, 'play', cart, save, room / 'more'], check=True, capture_output=True)
+
+    for export in ('no', '', 'x'):
+        play(export=export)
+        expect('without the option', sorted(path.name for path in folder.iterdir()), ['clock.gbkeep', 'clock.gbkeep.time'])
+    first = play()
+    expect('what is left', (left.read_bytes() == first, mark.read_bytes() == first, len(first)), (True, True, 8240))
+    # its own one is replaced, with its permissions, also where it is the same
+    left.chmod(0o640)
+    for count in (5000, 0, 700):
+        seconds(count)
+        exported = play()
+        expect('its own', (left.read_bytes() == exported, stat.S_IMODE(left.stat().st_mode)), (True, 0o640))
+    # what another core wrote meanwhile is kept, each under a name of its own
+    for number, content in enumerate((b'another', b'', bytes(0x20000 + 48)), 1):
+        (folder / 'clock.srm.2').write_bytes(b'mine') if number == 2 else None
+        left.write_bytes(content)
+        seconds(100)
+        number += number > 1
+        exported = play(f'clock.srm is written; the one before ends in .{number}')
+        expect('it is kept', (left.read_bytes() == exported, (folder / f'clock.srm.{number}').read_bytes() == content), (True, True))
+    expect('one that has the name stays', (folder / 'clock.srm.2').read_bytes(), b'mine')
+    # a game that begins with another core's: that one is kept, and the other core's game goes on here
+    for path in folder.iterdir():
+        path.unlink()
+    left.write_bytes(bytes(8192))
+    play('clock.srm is written; the one before ends in .1')
+    expect('what began it', (folder / 'clock.srm.1').read_bytes(), bytes(8192))
+    # what is no such file stays, and the game is saved
+    for make in (left.mkdir, lambda: os.mkfifo(left), lambda: left.symlink_to(room / 'exported'), lambda: left.symlink_to('nowhere'),
+                 lambda: left.write_bytes(bytes(0x20000 + 49))):
+        left.unlink()
+        make()
+        seconds(100)
+        before = left.lstat()
+        play('clock.srm can\'t be written for other cores')
+        expect('it stays', (left.lstat().st_ino, left.lstat().st_mode), (before.st_ino, before.st_mode))
+        left.rmdir() if left.is_dir() else None
+        left.touch() if not os.path.lexists(left) else None
+    # nor is anything written where no name is free to keep it by, or none for the copy by which the core knows its own
+    left.write_bytes(b'another')
+    for number in range(1, 100):
+        (folder / f'clock.srm.{number}').touch()
+    play('clock.srm can\'t be written for other cores')
+    expect('no name is free', left.read_bytes(), b'another')
+    left.unlink(), mark.unlink(), mark.mkdir()
+    play('clock.srm can\'t be written for other cores')
+    expect('no copy', (left.exists(), mark.is_dir()), (False, True))
+    # a cartridge without a battery leaves none
+    rom = bytearray(CART.read_bytes())
+    rom[0x147], rom[0x149] = 0, 0
+    cart, plain = room / 'plain.gb', room / 'no_battery'
+    cart.write_bytes(rom), plain.mkdir()
+    front = FrontEnd(core, plain, export='yes', messages='all')
+    front.load(cart)
+    front.frames(A, 70)
+    front.unload()
+    expect('no battery', (front.told[-1], [path.name for path in plain.iterdir()]), ('saved 70', ['plain.gbkeep']))
+
+
 def test_faults(program, core, room):
     folder = room / 'faults'
     folder.mkdir()
@@ -805,6 +887,49 @@ def test_disk(program, core, room):
     with ThreadPoolExecutor(max(2, os.cpu_count() or 1)) as pool:
         counts = list(pool.map(lambda one: cut_at(program, core, room, *one), [(name, point) for name in ('KILL_AT', 'FAIL_AT') for point in points]))
     expect('games that were cut late', sum(count >= 60 for count in counts) > 10, True)
+
+
+def leave(core, cart, folder, what, point):
+    """Plays less than to the next save, and ends, while the disk does that at this call of the end; prints how many calls there were, and what was told."""
+    front, log = FrontEnd(core, folder, messages='all', export='yes'), Path(os.environ['DISK_LOG'])
+    front.load(cart)
+    front.frames(RIGHT, 30)
+    calls = len(log.read_text().splitlines())
+    os.environ[what] = str(calls + int(point))
+    front.unload()
+    print(len(log.read_text().splitlines()) - calls, front.told[-1])
+
+
+def test_battery_cut(program, core, room):
+    """At each call by which a battery file is left the disk fails, or the front end is killed: what another core had there is there still, the file is the one
+    or the other, and the next end leaves it."""
+    other = bytes(range(256)) * 128
+
+    def left(name, what, point):
+        folder = room / f'cut-{name}'
+        if not folder.exists():
+            folder.mkdir()
+            (folder / 'demo.srm').write_bytes(other)
+        done = subprocess.run([sys.executable, '-B', __file__, 'leave', core, CART, folder, what, str(point)], stdout=subprocess.PIPE, text=True,
+                              env=dict(os.environ, LD_PRELOAD=str(disk(room)), DISK_LOG=str(room / f'cut-{name}.log')))
+        batteries = [path.read_bytes() for path in folder.glob('demo.srm*')]
+        expect(f'{name}: what was there', (other in batteries, {len(battery) for battery in batteries}), (True, {len(other)}))
+        return folder, done
+
+    _, done = left('whole', 'FAIL_AT', 1000)
+    calls, told = done.stdout.strip().split(' ', 1)
+    expect('a disk that works', (told, int(calls) > 12), ('demo.srm is written; the one before ends in .1', True))
+
+    def cut(what, point):
+        name = f'{what}-{point}'
+        folder, done = left(name, what, point)
+        expect(f'{name}: it ends', (done.returncode, 'demo.srm' in done.stdout), (-signal.SIGKILL, False) if what == 'KILL_AT' else (0, point >= int(calls) - 12))
+        left(name, 'FAIL_AT', 1000)
+        subprocess.run([program, 'export', CART, folder / 'demo.gbkeep', room / f'{name}.out'], check=True, capture_output=True)
+        expect(f'{name}: it is left', (folder / 'demo.srm').read_bytes() == (room / f'{name}.out').read_bytes(), True)
+
+    with ThreadPoolExecutor(max(2, os.cpu_count() or 1)) as pool:
+        list(pool.map(lambda one: cut(*one), [(what, point) for what in ('KILL_AT', 'FAIL_AT') for point in range(int(calls))]))
 
 
 def slow(core, cart, folder, held):
@@ -1075,7 +1200,7 @@ def test_options(program, core, room):
     folder = room / 'options'
     folder.mkdir()
     offered = FrontEnd(core, folder).offered
-    expect('the keys', list(offered), [f'gbkeep_{key}' for key in ('palette', 'import', 'save_seconds', 'time_away', 'messages')])
+    expect('the keys', list(offered), [f'gbkeep_{key}' for key in ('palette', 'import', 'export', 'save_seconds', 'time_away', 'messages')])
     for key, option in offered.items():
         info, values = option.info.decode(), values_of(option)
         expect(f'{key}: a help text', (len(info) > 30, info[-1], len(values) > 1, option.default), (True, '.', True, None))
@@ -1164,6 +1289,8 @@ def main():
     words = sys.argv[1:]
     if len(words) == 5 and words[0] == 'play':
         return play(*words[1:])
+    if len(words) == 6 and words[0] == 'leave':
+        return leave(*words[1:])
     if len(words) == 5 and words[0] == 'slow':
         return slow(*words[1:])
     if len(words) == 5 and words[0] == 'streams':
@@ -1174,7 +1301,7 @@ def main():
     with tempfile.TemporaryDirectory(prefix='libretro-') as folder:
         room = Path(folder)
         tests = (test_play, test_same, test_states, test_ahead, test_twice, test_closed_streams, test_memory, test_carts,
-                 test_battery, test_faults, test_disk, test_slow, test_power, test_options, test_clock, test_clock_back,
+                 test_battery, test_battery_left, test_faults, test_disk, test_battery_cut, test_slow, test_power, test_options, test_clock, test_clock_back,
                  test_crafted_times, test_files_of_others, test_owner, test_clock_cut)
         for test in tests:
             test(program, core, room)

@@ -163,13 +163,20 @@ def plays(front, program, room):
 
 
 def imports(front, program, room):
-    """A new game begins with the battery file of another core, and RetroArch writes nothing over that."""
+    """A new game begins with the battery file of another core, over which only the core writes, by the option."""
     battery, save = front.saves / 'other.srm', front.saves / 'other.gbkeep'
     cart, before = shutil.copy(CART, room / 'other.gb'), bytes(range(256)) * 128
     battery.write_bytes(before)
     for first in ('A new game with the save in other.srm', 'resumed '):
         log = front.play(cart, 100)
         expect('what is told', (log[0].startswith(first), save.exists(), battery.read_bytes() == before), (True, True, True))
+    # and by the option the core writes its own at the end
+    options, kept = room / 'options', front.saves / 'other.srm.1'
+    options.write_text('gbkeep_export = "yes"\n')
+    log = front.play(cart, 100, global_core_options='true', core_options_path=options)
+    subprocess.run([program, 'export', cart, save, room / 'other.out'], check=True, capture_output=True)
+    expect('what is left', (log[-2], kept.read_bytes() == before, battery.read_bytes() == (room / 'other.out').read_bytes()),
+           ('other.srm is written; the one before ends in .1', True, True))
     save.unlink()
     battery.write_bytes(b'wrong')
     expect('a wrong file', (front.play(cart, 100)[0], save.exists(), battery.read_bytes()), ('other.srm is no save of this game (see the log)', False, b'wrong'))
