@@ -1006,12 +1006,12 @@ static void name_shortly(char name[MOST_NAME + 1], const char *path) {
 
 /* A battery file that is not taken begins no game: a SAVE without it would stand in its way for good. */
 static bool refuse_battery(const char *path, const char *why) {
-    char name[MOST_NAME + 1];
+    char name[MOST_NAME + 1], more[PATH_MAX + 300];
     name_shortly(name, path);
-    snprintf(game.fault, sizeof game.fault, "%s. What to do: put the right file there or take it away, or say no to the core's option '" IMPORT_OPTION
-             "'. The file is %s", why, path);
-    snprintf(game.shown, sizeof game.shown, "%s is no save of this game (see the log)", name);
-    tell(REFUSAL, 600, game.fault, "%s", game.shown);
+    snprintf(more, sizeof more, "%s: %s. What to do: put the right file there or take it away, or say no to the core's option '" IMPORT_OPTION "'.", path, why);
+    snprintf(game.fault, sizeof game.fault, "%s", why);
+    snprintf(game.shown, sizeof game.shown, "%s is no save of this game: move it away", name);
+    tell(REFUSAL, 600, more, "%s", game.shown);
     return false;
 }
 
@@ -1031,7 +1031,7 @@ static bool begin_game(void) {
     bool has_battery = game.imports && find_battery(path);
     uint8_t *battery = has_battery ? read_file(path, 0, MOST_BATTERY, &length) : NULL;
     if (has_battery && !battery)
-        return refuse_battery(path, "It can't be read");
+        return refuse_battery(path, "it can't be read");
     uint32_t code = gbkeep_session_sectors(game.rom, game.rom_length, &game.sectors), imported = GBKEEP_NO_BATTERY;
     if (code == GBKEEP_DONE && has_battery)
         imported = code = gbkeep_session_import(game.rom, game.rom_length, battery, length, game.sectors, &session);
@@ -1039,7 +1039,7 @@ static bool begin_game(void) {
     if (code == GBKEEP_NO_BATTERY || (code == GBKEEP_DONE && !has_battery))
         code = gbkeep_session_begin(game.rom, game.rom_length, game.sectors, &session);
     if (code == GBKEEP_BATTERY_LENGTH && gbkeep_session_begin(game.rom, game.rom_length, game.sectors, &session) == GBKEEP_DONE) {
-        snprintf(why, sizeof why, "It has %llu bytes, and a save of this game has %zu", (unsigned long long)about(AT_FDCWD, path, 0).stx_size,
+        snprintf(why, sizeof why, "it has %llu bytes, and a save of this game has %zu", (unsigned long long)about(AT_FDCWD, path, 0).stx_size,
                  gbkeep_session_battery_length(session));
         gbkeep_session_free(session);
         return refuse_battery(path, why);
@@ -1185,13 +1185,14 @@ static bool put_battery(const char *path, const char *mark, const uint8_t *bytes
 
 /* Leaves NAME.srm for other cores. */
 static void leave_battery(void) {
-    char path[PATH_MAX], mark[PATH_MAX], name[MOST_NAME + 1];
+    char path[PATH_MAX], mark[PATH_MAX + 8], name[MOST_NAME + 1];
     size_t length = gbkeep_session_battery_length(game.session);
     int kept = 0;
     uint8_t *bytes = malloc(length + 1);
     uint32_t code = bytes ? gbkeep_session_battery(game.session, bytes, length) : GBKEEP_NO_MEMORY;
     snprintf(path, sizeof path, "%.*s.srm", (int)(strlen(game.save) - strlen(".gbkeep")), game.save);
-    bool good = snprintf(mark, sizeof mark, "%s.battery", game.save) < PATH_MAX && code == GBKEEP_DONE;
+    snprintf(mark, sizeof mark, "%s.battery", game.save);
+    bool good = code == GBKEEP_DONE;
     if (code != GBKEEP_NO_BATTERY && !(good && has_bytes(path, bytes, length))) {
         name_shortly(name, path);
         if (!good || !put_battery(path, mark, bytes, length, &kept))

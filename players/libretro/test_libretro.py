@@ -641,9 +641,9 @@ def test_battery(program, core, room):
         front.load(cart)
         front.frames(0, 302)
         front.unload()
-        size = f'It has {len(content)} bytes, and a save of this game has 8240. What to do: '
+        size = f'it has {len(content)} bytes, and a save of this game has 8240. What to do: '
         expect('no file of this game', (front.told, sorted(path.name for path in folder.iterdir()), there.read_bytes() == content, any(size in line for line in front.log)),
-               (['clock.srm is no save of this game (see the log)'] * 2, [there.name], True, True))
+               (['clock.srm is no save of this game: move it away'] * 2, [there.name], True, True))
     # the RAM alone is one, as of a core that keeps no clock; and so is a link to one
     there.write_bytes(bytes(8192))
     for path in (there, folder / 'clock.sav'):
@@ -676,7 +676,7 @@ def test_battery(program, core, room):
     # a long name has room on the screen
     name = 'Zauberwälder, die Rückkehr der Könige (Schweiz, Österreich) (Änderung 2)'
     long = Path(shutil.copy(cart, room / f'{name}.gb'))
-    for content, told in ((battery.read_bytes(), 'A new game with the save in Zauberwälder,..g 2).srm'), (b'wrong', 'Zauberwälder,..g 2).srm is no save of this game (see the log)')):
+    for content, told in ((battery.read_bytes(), 'A new game with the save in Zauberwälder,..g 2).srm'), (b'wrong', 'Zauberwälder,..g 2).srm is no save of this game: move it away')):
         (folder / f'{name}.srm').write_bytes(content)
         front = FrontEnd(core, folder)
         front.load(long)

@@ -179,7 +179,7 @@ def imports(front, program, room):
            ('other.srm is written; the one before ends in .1', True, True))
     save.unlink()
     battery.write_bytes(b'wrong')
-    expect('a wrong file', (front.play(cart, 100)[0], save.exists(), battery.read_bytes()), ('other.srm is no save of this game (see the log)', False, b'wrong'))
+    expect('a wrong file', (front.play(cart, 100)[0], save.exists(), battery.read_bytes()), ('other.srm is no save of this game: move it away', False, b'wrong'))
 
 
 def inputs_in(save):
