@@ -202,6 +202,23 @@ class Seen(Viewed):
                     self.seen('#about', f'{name}_about')
                     self.key('Escape')
 
+    def test_large_letters(self):
+        """Where the browser's letters are twice as large, no text is cut, and no control covers the picture."""
+        for size in ('390x844', '360x640', '844x390', '1280x800', '760x500'):
+            with self.subTest(size=size):
+                self.size(size)
+                page = self.play('demo')
+                page.js("document.documentElement.style.fontSize = '200%'")
+                found = self.seen('#game', f'{size}_large_playing', is_whole=True)
+                self.assertEqual([one['name'] for one in found['controls'] if covers(one, found['screen'])], [])
+                page.click('#menu-open')
+                self.dialog('menu')
+                self.seen('#menu', f'{size}_large_menu')
+                self.key('Escape')
+                page.close()
+                self.seen('#games', f'{size}_large_home')
+                self.assertGreater(page.js("return document.querySelector('#list .name').clientWidth"), 100)
+
     def test_first_start(self):
         """The first page says what it is, in one line, that there is no sound, and has the demo."""
         other = Browser(self.room / 'first')
