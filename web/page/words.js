@@ -166,15 +166,17 @@ export function planOf({ cart, battery, save }, games, played) {
       ? { what: 'begin', ...asked('new with battery', { title: cart.title, battery: battery.name }), more: kept }
       : { what: 'begin', text: '', more: '', yes: '' };
   }
+  const another = save && { text: `${save.name} is a game of ${save.title}: play it?`, more: kept, yes: 'Play it' };
   if (cart) {
     const what = save ? 'take in behind' : 'play';
+    if (another && save.id !== null) {
+      return { what, ...another };
+    }
     const text = `${cart.name} is ${cart.title || 'a game'}: play it?`;
     return played === null ? { what, text: '', more: '', yes: '' } : { what, ...asked('play instead', { title: '', played }), text };
   }
-  if (save) {
-    return save.id === null
-      ? { what: 'no cartridge', text: '', more: '', yes: '' }
-      : { what: 'take in', text: `${save.name} is a game of ${save.title}: play it?`, more: kept, yes: 'Play it' };
+  if (another) {
+    return save.id === null ? { what: 'no cartridge', text: '', more: '', yes: '' } : { what: 'take in', ...another };
   }
   if (battery) {
     if (battery.of) {

@@ -78,4 +78,6 @@ test('what is done with files', () => {
   assert.equal(planOf({ ...none, save }, 1, 'Y').yes, 'Play it');
   assert.equal(what({ save: { ...save, id: null } }), 'no cartridge');
   assert.equal(what({ cart, save: { ...save, id: null } }), 'take in behind');
+  assert.equal(planOf({ ...none, cart, save: { ...save, id: null } }, 0, null).yes, '');
+  assert.equal(planOf({ ...none, cart, save }, 1, null).yes, 'Play it');
 });
