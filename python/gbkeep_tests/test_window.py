@@ -263,7 +263,8 @@ def test_going_back(room):
     player.keys('key', 'g')
 
     timeline(player, 'Go on from here')
-    player.press('Go on from here')
+    player.wait(lambda: player.chosen_card(), 'the newest card is not the chosen one')
+    player.keys('key', 'Return')
     player.until('The game goes on from there')
     last = room.shot(player)
     player.close()
@@ -273,7 +274,8 @@ def test_going_back(room):
     expect('a cache', len(caches), 1)
     player = begun(room.open(CART, save))
     player.act('win.timeline')
-    player.until('Go on from here')
+    player.press('Go on from here')
+    player.until('The game goes on from there')
     player.close()
 
 
@@ -297,11 +299,19 @@ def test_recorded(room):
         player.until_gone('^Begin a branch here\\?$')
     player.until('^A branch: run-2.gbkeep, recorded in run-2.rec', 120)
     player.until('frame [0-9,]+, 1 rerecord$')
+    player.keys('key', 'g')
+    time.sleep(3)
     timeline(player, 'Begin a branch here')
-    frame = int(re.search('frame ([0-9,]+)$', player.until('^0:00:[0-9]+, frame [0-9,]+$'))[1].replace(',', ''))
+    # from the line to the strip, and back: a card is chosen while its moment is shown
+    player.keys('key', 'Tab', 'Tab', 'Home')
+    player.wait(lambda: player.chosen_card(), 'no card is chosen')
+    player.keys('key', 'shift+Tab', 'shift+Tab', 'Right')
+    player.wait(lambda: not player.chosen_card(), 'a card stays chosen, though another moment is shown')
+    player.keys('key', 'End')
+    frame = int(re.search('frame ([0-9,]+)$', player.until('^0:[0-9:]+, frame [0-9,]+$'))[1].replace(',', ''))
     for _ in range(3):
         player.keys('key', 'Left')
-    player.until(f'^0:00:[0-9]+, frame {frame - 3:,}$')
+    player.until(f'^0:[0-9:]+, frame {frame - 3:,}$')
     player.keys('key', 'Tab')
     player.screen.do('type', 'first room')
     player.keys('key', 'Return')

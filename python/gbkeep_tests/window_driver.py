@@ -135,6 +135,11 @@ class Player:
         """What has that name, and a role with that in its own. (A button of a dialog has its name twice.)"""
         return [one for one, name, kind in self.nodes() if re.fullmatch(f'({pattern})( ({pattern}))?', name) and role in kind]
 
+    def chosen_card(self) -> bool:
+        """Whether one of a strip of cards is the chosen one."""
+        from gi.repository import Atspi
+        return any('list item' in role and one.get_state_set().contains(Atspi.StateType.SELECTED) for one, _, role in self.nodes())
+
     def press(self, pattern: str, role: str = 'button') -> None:
         """Clicks a button by its name."""
         def clicked() -> bool:

@@ -1,4 +1,5 @@
 """The timeline: a strip of pictures, and a large one of the moment that is chosen; of a recorded game any moment, which can be given a name."""
+import bisect
 from collections.abc import Callable
 
 from ...notes import keep_notes, notes_of
@@ -48,7 +49,7 @@ class TimelineWindow(Adw.Window):
         box.append(self.screen)
         self.said = Gtk.Label(css_classes=['heading', 'numeric'], margin_top=12)
         box.append(self.said)
-        self.chosen = Gtk.SingleSelection(model=self.store, autoselect=not recorded, can_unselect=True, selected=Gtk.INVALID_LIST_POSITION)
+        self.chosen = Gtk.SingleSelection(model=self.store, autoselect=not recorded, selected=Gtk.INVALID_LIST_POSITION)
         factory = Gtk.SignalListItemFactory()
         factory.connect('setup', lambda _f, item: item.set_child(Gtk.Box(orientation=Gtk.Orientation.VERTICAL, spacing=4, margin_start=4, margin_end=4, margin_top=4, margin_bottom=4)))
         factory.connect('bind', self.bind)
@@ -67,8 +68,20 @@ class TimelineWindow(Adw.Window):
         else:
             self.chosen.set_selected(self.store.get_n_items() - 1)
             self.show_chosen()
-        self.connect('map', lambda _: (self.scale if recorded else self.strip).grab_focus())
-        scrolled.get_hadjustment().connect('changed', lambda one: one.set_value(one.get_upper()))
+        self.strip.add_tick_callback(self.begin)
+
+    def begin(self, *_words: object) -> bool:
+        """Shows where the play is, once the strip has a size: one that has none neither scrolls nor takes the keys."""
+        if not self.strip.get_width():
+            return GLib.SOURCE_CONTINUE
+        self.scroll(self.store.get_n_items() - 1)
+        (self.scale if self.recorded else self.strip.get_last_child()).grab_focus()
+        return GLib.SOURCE_REMOVE
+
+    def scroll(self, place: int) -> None:
+        """Brings a card into sight."""
+        if self.store.get_n_items():
+            self.strip.activate_action('list.scroll-to-item', GLib.Variant.new_uint32(place))
 
     def fill(self, timeline: Timeline) -> None:
         self.store.splice(0, self.store.get_n_items(), [Item(moment, clock(moment.frames) if self.recorded else ago(seconds)) for moment, seconds in timeline.shown()])
@@ -84,9 +97,10 @@ class TimelineWindow(Adw.Window):
         one = self.chosen.get_selected_item()
         if one:
             self.screen.show_picture(one.moment.picture() or self.screen.shades)
-            self.said.set_label(one.label)
             if self.recorded:
                 self.scale.set_value(one.moment.count)
+            else:
+                self.said.set_label(one.label)
 
     def go(self) -> None:
         one = self.chosen.get_selected_item()
@@ -117,7 +131,15 @@ class TimelineWindow(Adw.Window):
         frames = timeline.frames_of(count)
         self.said.set_label(f'{clock(frames)}, frame {frames:,}')
         self.name.set_text(self.marks.get(count, ''))
+        self.choose(count)
         seeker.seek(count)
+
+    def choose(self, count: int) -> None:
+        """The card of this moment is the chosen one; where the moment lies behind its card, none is."""
+        counts = [one.moment.count for one in self.store]
+        place = bisect.bisect_right(counts, count) - 1
+        self.chosen.set_selected(place if place >= 0 and counts[place] == count else Gtk.INVALID_LIST_POSITION)
+        self.scroll(max(place, 0))
 
     def found(self, count: int, shades: bytes) -> bool:
         if count == int(self.scale.get_value()):
@@ -125,6 +147,7 @@ class TimelineWindow(Adw.Window):
         if self.recorded and len(self.recorded.moments) != self.store.get_n_items():
             # what was passed on the way there
             self.fill(self.recorded)
+            self.choose(int(self.scale.get_value()))
         return False
 
     def show_marks(self, timeline: RecordedTimeline) -> None:
