@@ -540,6 +540,7 @@ class MainWindow(Adw.ApplicationWindow):
 
     def go_home(self) -> None:
         if self.play is not None:
+            self.toast.dismiss()
             self.game.title.set_subtitle('saving')
             self.steering.close()
             self.dialogs.close_all()
