@@ -437,6 +437,7 @@ def test_home(room):
     player = room.open()
     player.until('^A Game Boy emulator')
     player.close()
+    expect('a size into which no game was fitted is not kept', (room.folder / 'config/gbkeep/window').exists(), False)
     cart = room.path('game.gb')
     shutil.copy(CART, cart)
     player = begun(room.open(cart))

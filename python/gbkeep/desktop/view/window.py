@@ -606,7 +606,8 @@ class MainWindow(Adw.ApplicationWindow):
 
     def close_window(self) -> bool:
         """Closes the window once the game is saved."""
-        if not self.is_fullscreen() and not self.is_maximized():
+        # one that no game has been fitted into would leave a border around the next one
+        if not self.wanted and not self.is_fullscreen() and not self.is_maximized():
             self.chosen.width, self.chosen.height = self.get_default_size()
             keep(self.chosen)
         if self.play is None:
