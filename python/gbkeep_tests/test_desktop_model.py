@@ -622,6 +622,8 @@ def test_refusals():
     for error in (MissingProgram('/no/gbkeep', 'no such program'), OSError(28, 'No space left on device', '/a/b'), MemoryError(), ValueError('x'), actions.WrongKeys('a, line 1: b')):
         told = refusals.told_of(error)
         expect(f'{error!r}', (bool(told.head), told.in_a_line().isprintable(), '\n' in told.body), (True, True, False))
+    for wrong, advice in (('a, line 1: b', 'Mend that line'), ('a: No such file or directory', 'Name another one')):
+        expect(wrong, advice in refusals.told_of(actions.WrongKeys(wrong)).body, True)
 
 
 def test_palettes():

@@ -42,7 +42,8 @@ def told_of(error: BaseException, cart: Optional[object] = None, save: Optional[
     if isinstance(error, Refused):
         return of_program(error, names, {'CART': cart, 'SAVE': save, 'RECORDING': recording})
     if isinstance(error, WrongKeys):
-        return Told('The file of keys is wrong', sentences(str(error), 'Mend that line, or start without --keys'), printable(error, MOST_LINE))
+        what = 'Mend that line' if ', line ' in str(error) else 'Name another one'
+        return Told('The file of keys is wrong', sentences(str(error), f'{what}, or start without --keys'), printable(error, MOST_LINE))
     if isinstance(error, (WrongInput, WrongTime, Failed, NotReplaced, Unsafe)):
         return Told(*of_file(str(error)), printable(error, MOST_LINE))
     if isinstance(error, MemoryError):
