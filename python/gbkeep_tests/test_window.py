@@ -549,7 +549,7 @@ def test_refusals(room):
             ('The file of keys is wrong', 'no such file', '--keys', room.path('none.keys'), CART)):
         refused(room, head, line if 'keys' not in head else 'No such file', *words)
     player = begun(room.open(CART, room.path('whole.gbkeep')))
-    refused(room, "whole.gbkeep can't be opened or written", 'device failed', CART, room.path('whole.gbkeep'))
+    refused(room, 'This game is open already', 'device failed', CART, room.path('whole.gbkeep'))
     player.close()
     for words, status, what in ((['--scale', '9' * 5000, CART], 2, 'scale'), (['--palette', '0', CART], 2, 'palette'), (['--none', CART], 2, ''), ([CART, 'a', 'b'], 2, ''),
                                 (['--record', 'r'], 2, 'need a CART'), (['--gbkeep', room.path('nothing'), CART], 1, 'make build'),

@@ -1,11 +1,13 @@
 """Refusals in words for players: what happened, and then which file it is about and what to do."""
+import fcntl
+import os
 import re
 from dataclasses import dataclass
 from typing import Optional
 
-from ..input_files import MOST_LINE, WrongInput, printable, reason
+from ..input_files import MOST_LINE, WrongInput, open_plain, printable, reason
 from ..machines import MissingProgram, Refused
-from ..new_files import Unsafe
+from ..new_files import Unsafe, is_locked
 from ..slots import NotReplaced, short
 from ..timed_game import WrongTime
 from ..tools import Failed
@@ -78,8 +80,23 @@ def of_device(refused: Refused, names: dict[str, str], paths: dict[str, object])
         return Told(f'{names["SAVE"]} exists already', 'A game is not begun over another one. Open that one, or take a name that is free.', refused.told())
     if "can't be made" in refused.means:
         return Told('No save file can be made', f'{printable(paths["SAVE"])} can\'t be made there. Take a folder that is there and that you may write.', refused.told())
-    return Told(f'{names["SAVE"]} can\'t be opened or written', 'This game may be open in another window. Else look at the disk and at who may write '
-                f'{printable(paths["SAVE"])}. What was saved stays saved.', refused.told())
+    if is_played(paths['SAVE']):
+        return Told('This game is open already', f'{printable(paths["SAVE"])} is played in another window, or by another program. Go on there, or close it first.', refused.told())
+    return Told(f'{names["SAVE"]} can\'t be opened or written', f'Look at the disk and at who may write {printable(paths["SAVE"])}. What was saved stays saved.', refused.told())
+
+
+def is_played(save: object) -> bool:
+    """Whether a program has locked a save file."""
+    try:
+        descriptor = open_plain(str(save))
+    except (OSError, WrongInput):
+        return False
+    try:
+        return not is_locked(descriptor, fcntl.LOCK_SH)
+    except OSError:
+        return False
+    finally:
+        os.close(descriptor)
 
 
 def of_file(line: str) -> tuple[str, str]:
