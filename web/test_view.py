@@ -568,9 +568,11 @@ class Said(Viewed):
                 page.until(lambda: int(page.status()['number']) > before and words in page.text(), f'{name}: nothing is said')
                 self.assertEqual(page.js("return [...document.querySelectorAll('.toast.refused p')].at(-1).textContent").split('.')[0], page.text().split('.')[0])
                 self.assertEqual(page.state_of(), 'refused')
-            # the first game of this browser is in the list as soon as it is played
-            page.demo()
+            # a save file that is none of the cartridge beside it
+            page.give(self.carts['demo'], self.room / 'foreign.gbkeep')
             page.until_state('playing')
+            page.until_text('foreign.gbkeep: the cartridge of this SAVE is not here')
+            # the first game of this browser is in the list as soon as it is played
             page.give(self.room / 'alone.sav')
             page.until(lambda: page.is_open('pick'), 'nobody asks whose it is')
             self.assertEqual(page.js("return [...document.querySelectorAll('#pick-list button')].map((one) => one.textContent)"), ['GBKEEP DEMO'])

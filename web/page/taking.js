@@ -92,9 +92,9 @@ export class Taking {
     if (plan.text !== '' && plan.yes !== '' && !await dialogs.ask({ text: plan.text, more: plan.more, yes: plan.yes })) {
       return;
     }
-    const name = cart?.name ?? battery?.name ?? save?.name ?? null;
+    let name = cart?.name ?? battery?.name ?? save?.name ?? null;
     try {
-      await this.#does(plan.what, look, plan.text);
+      await this.#does(plan.what, look, plan.text, (file) => { name = file.name; });
     } catch (error) {
       this.#page.refuse(error, name);
     }
@@ -104,13 +104,15 @@ export class Taking {
    * @param {Plan['what']} what
    * @param {Looked} look
    * @param {string} text
+   * @param {(file: GivenFile) => void} begins a file is taken, behind another one
    */
-  async #does(what, { cart, battery, save }, text) {
+  async #does(what, { cart, battery, save }, text, begins) {
     const { client, dialogs, playing, store } = this.#page;
     if (cart) {
       await playing.open({ rom: cart.bytes, name: cart.name, battery: battery?.bytes ?? null });
     }
     if (save && (what === 'take in' || what === 'take in behind')) {
+      begins(save);
       await playing.open({ id: await client.ask('takeIn', { image: save.bytes }) });
     }
     if (battery && what === 'battery of the list' && battery.of) {
