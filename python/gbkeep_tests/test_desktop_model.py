@@ -615,10 +615,12 @@ def test_refusals():
             ('damaged snapshot', 'stream', 'New.gbkeep is damaged', 'backup'), ('device failed', 'stream', 'New.gbkeep can\'t be opened or written', '/games/New.gbkeep'),
             ('device failed', 'new', 'No save file can be made', '/games/New.gbkeep'), ('recording behind, 9 inputs', 'record', 'The recording lags behind the game', 'run.rec')):
         told = refusals.told_of(Refused(f'gbkeep: {line}', command), '/games/a game.gb', '/games/New.gbkeep', '/games/run.rec')
-        expect(line, (told.head, part in told.body, re.search(r'\b[NM]\b|SAVE|CART|RECORDING', told.head + told.body.replace('SAVE.before', ''))),
-               (head, True, None) if 'SAVE.before' not in told.body else (head, True, None))
+        expect(line, (told.head, part in told.body, re.search(r'\b[NM]\b|SAVE|CART|RECORDING', told.head + told.body)), (head, True, None))
+        expect(f'{line}, in a terminal', told.in_a_line(), f'gbkeep: {line}: {head}: {told.body}')
     taken = Refused('gbkeep: device failed', 'new', '/games/New.gbkeep exists already', 'take a name that is free')
     expect('exists already', refusals.told_of(taken, None, '/games/New.gbkeep').head, 'New.gbkeep exists already')
+    away = Refused('run.rec is not there', 'record', 'the game in SAVE has no recording of this name', 'name another one')
+    expect('no recording', refusals.told_of(away, None, '/games/New.gbkeep').body, 'The game in New.gbkeep has no recording of this name. Name another one.')
     for error in (MissingProgram('/no/gbkeep', 'no such program'), OSError(28, 'No space left on device', '/a/b'), MemoryError(), ValueError('x'), actions.WrongKeys('a, line 1: b')):
         told = refusals.told_of(error)
         expect(f'{error!r}', (bool(told.head), told.in_a_line().isprintable(), '\n' in told.body), (True, True, False))

@@ -515,10 +515,10 @@ def refused(room, head, line, *words):
     player = room.open(*words)
     player.until(f'^{head}')
     said = ' '.join(player.texts())
-    expect(f'{words}: no letter is left to be filled in', re.search(r'\b(SAVE or RECORDING|BATTERY has|N bytes|has M)\b', said), None)
     player.keys('key', 'Escape')
     player.until('^(Open a game|Continue |Begin )')
     err = player.close(1)
+    expect(f'{words}: no letter is left to be filled in', re.search(r'\b(SAVE or RECORDING|BATTERY has|N bytes|has M)\b', said + err), None)
     expect(f'{words}: a line', (line in err, err.count('\n'), err.strip().isprintable()), (True, 1, True))
 
 

@@ -63,26 +63,30 @@ def of_program(refused: Refused, names: dict[str, str], paths: dict[str, object]
         for sign, group in zip('NM', groups):
             text = re.sub(rf'\b{sign}\b', f'{int(group):,}' if group.isdigit() else group, text)
         return re.sub(r'\b(CART|SAVE|RECORDING)\b', lambda found: names[found[1]], text)
+
+    def told(head: str, body: str) -> Told:
+        return Told(head, body, printable(f'{refused.line}: {head}: {body}', MOST_LINE))
+
     if line == 'device failed':
-        return of_device(refused, names, paths)
+        return told(*of_device(refused, names, paths))
     if line == 'file failed':
-        return Told(named('CART can\'t be read'), f'{printable(paths["CART"])} is missing, no plain file, or may not be read. Choose it again.', refused.told())
+        return told(named('CART can\'t be read'), f'{printable(paths["CART"])} is missing, no plain file, or may not be read. Choose it again.')
     # of its lines: what happened, and the rest, where CART, SAVE and RECORDING stand for names, and N and M for the numbers of the line
     for pattern, head, body in MESSAGES['refused']:
         found = re.fullmatch(pattern, line)
         if found:
-            return Told(named(head), named(body, found.groups()), refused.told())
-    return Told(sentences(line).rstrip('.'), sentences(refused.means, refused.advice), refused.told())
+            return told(named(head), named(body, found.groups()))
+    return Told(sentences(line).rstrip('.'), named(sentences(refused.means, refused.advice)), refused.told())
 
 
-def of_device(refused: Refused, names: dict[str, str], paths: dict[str, object]) -> Told:
+def of_device(refused: Refused, names: dict[str, str], paths: dict[str, object]) -> tuple[str, str]:
     if refused.means.endswith('exists already'):
-        return Told(f'{names["SAVE"]} exists already', 'A game is not begun over another one. Open that one, or take a name that is free.', refused.told())
+        return f'{names["SAVE"]} exists already', 'A game is not begun over another one. Open that one, or take a name that is free.'
     if "can't be made" in refused.means:
-        return Told('No save file can be made', f'{printable(paths["SAVE"])} can\'t be made there. Take a folder that is there and that you may write.', refused.told())
+        return 'No save file can be made', f'{printable(paths["SAVE"])} can\'t be made there. Take a folder that is there and that you may write.'
     if is_played(paths['SAVE']):
-        return Told('This game is open already', f'{printable(paths["SAVE"])} is played in another window, or by another program. Go on there, or close it first.', refused.told())
-    return Told(f'{names["SAVE"]} can\'t be opened or written', f'Look at the disk and at who may write {printable(paths["SAVE"])}. What was saved stays saved.', refused.told())
+        return 'This game is open already', f'{printable(paths["SAVE"])} is played in another window, or by another program. Go on there, or close it first.'
+    return f'{names["SAVE"]} can\'t be opened or written', f'Look at the disk and at who may write {printable(paths["SAVE"])}. What was saved stays saved.'
 
 
 def is_played(save: object) -> bool:
