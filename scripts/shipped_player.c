@@ -11,7 +11,7 @@
 #include <stdlib.h>
 #include <string.h>
 
-enum { SHADES = 160 * 144, GET_CAN_DUPE = 3, SET_PIXEL_FORMAT = 10, AUDIO_VIDEO_ENABLE = 47 | 0x10000, VIDEO = 1, AUDIO = 2 };
+enum { SHADES = 160 * 144, GET_CAN_DUPE = 3, SET_PIXEL_FORMAT = 10, SET_MEMORY_MAPS = 36 | 0x10000, AUDIO_VIDEO_ENABLE = 47 | 0x10000, VIDEO = 1, AUDIO = 2 };
 
 struct game_info {
     const char *path;
@@ -41,7 +41,8 @@ static bool environment(unsigned what, void *data) {
         *(int *)data = (with_pictures ? VIDEO : 0) | AUDIO;
     if (what == GET_CAN_DUPE)
         *(bool *)data = true;
-    return what == AUDIO_VIDEO_ENABLE || what == GET_CAN_DUPE || what == SET_PIXEL_FORMAT;
+    /* RetroArch takes the map of the memory, too */
+    return what == AUDIO_VIDEO_ENABLE || what == GET_CAN_DUPE || what == SET_PIXEL_FORMAT || what == SET_MEMORY_MAPS;
 }
 
 static void video(const void *data, unsigned width, unsigned height, size_t pitch) { shown += data && width && height && pitch; }
