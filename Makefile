@@ -194,8 +194,8 @@ play: bin/gbkeep bin/libgbkeep.so
 CC ?= cc
 LIBRETRO ?= /usr/include/libretro-common
 
-$(OUT)/gbkeep_libretro.so: $(OUT)/libgbkeep.so scripts/libretro.py players/libretro/gbkeep_libretro.c players/libretro/tables_h.py python/gbkeep/faults.py \
-  python/gbkeep/palettes.py | $(LOOK)
+$(OUT)/gbkeep_libretro.so: $(OUT)/libgbkeep.so scripts/libretro.py $(wildcard players/libretro/*.c players/libretro/*.h players/libretro/Makefile* \
+  players/libretro/link.T) players/libretro/tables_h.py python/gbkeep/faults.py python/gbkeep/palettes.py | $(LOOK)
 	CC="$(CC)" LIBRETRO="$(LIBRETRO)" python3 -B scripts/libretro.py $(ARCH)
 
 libretro: $(OUT)/gbkeep_libretro.so

@@ -13,10 +13,6 @@ from scripts.arm64 import target
 from scripts.doctor import needed
 
 TOP = Path(__file__).resolve().parent.parent
-SOURCES = TOP / 'players/libretro'
-# the core stays in memory once it is there: a thread that waits for a disk may outlive the game
-FLAGS = ['-std=c11', '-O2', '-Wall', '-Wextra', '-Werror', '-fPIC', '-pthread', '-shared', '-s', '-Wl,-z,relro,-z,now,-z,nodelete', '-Wl,--gc-sections',
-         f'-ffile-prefix-map={TOP}=.']
 
 
 def main():
@@ -28,14 +24,11 @@ def main():
     compiler, out = (target.compiler(), TOP / 'bin/arm64') if words else (os.environ.get('CC') or 'cc', TOP / 'bin')
     out.mkdir(parents=True, exist_ok=True)
     with tempfile.TemporaryDirectory(dir=out) as folder:
-        with open(f'{folder}/tables.h', 'wb') as tables:
-            subprocess.run([sys.executable, '-B', SOURCES / 'tables_h.py'], stdout=tables, check=True)
-        made, names = Path(folder) / 'gbkeep_libretro.so', Path(folder) / 'core.map'
-        names.write_text('{ global: retro_*; local: *; };\n', encoding='utf-8')
-        status = subprocess.run([compiler, *FLAGS, f'-Wl,--version-script={names}', f'-I{folder}', f'-I{out}', f'-I{headers}', '-o', made,
-                                 SOURCES / 'gbkeep_libretro.c', out / 'libgbkeep.a']).returncode
+        made = Path(folder) / 'gbkeep_libretro.so'
+        status = subprocess.run(['make', '-s', '-C', TOP / 'players/libretro', f'CC={compiler}', f'PYTHON={sys.executable}', f'GBKEEP={out}', f'LIBRETRO={headers}',
+                                 f'BUILD={folder}', f'TARGET={made}']).returncode
         if status != 0:
-            sys.exit(f'libretro.py: {compiler} ended with status {status}')
+            sys.exit(f'libretro.py: make ended with status {status}')
         if words:
             target.needed(made)
         os.replace(made, out / made.name)

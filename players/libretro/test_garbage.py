@@ -33,7 +33,8 @@ def build(folder):
     with open(folder / 'tables.h', 'w') as tables:
         subprocess.run([sys.executable, '-B', HERE / 'tables_h.py'], stdout=tables, check=True)
     core = folder / 'core.so'
-    subprocess.run([COMPILER, *FLAGS, f'-I{folder}', f'-I{BIN}', f'-I{HEADERS}', '-o', core, HERE / 'gbkeep_libretro.c', BIN / 'libgbkeep.a'], check=True)
+    subprocess.run([COMPILER, *FLAGS, f'-I{folder}', f'-I{BIN}', f'-I{HEADERS}', f'-I{HERE}', '-o', core, *sorted(HERE.glob('*.c')), BIN / 'libgbkeep.a'],
+                   check=True)
     return core
 
 

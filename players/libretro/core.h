@@ -1,0 +1,202 @@
+/* What the files of the core share. Each is of one topic; system.c alone calls the host's system. */
+#define _GNU_SOURCE
+#include <limits.h>
+#include <pthread.h>
+#include <stdatomic.h>
+#include <stdbool.h>
+#include <stddef.h>
+#include <stdint.h>
+#include <sys/types.h>
+#include "gbkeep.h"
+#include "libretro.h"
+
+enum { WIDTH = 160, HEIGHT = 144, SHADES = WIDTH * HEIGHT, SECTOR = 512, MOST_ROM = 0x800000, MOST_SECTORS = 65536 };
+/* another core's battery file: the largest RAM, and the registers of a clock */
+enum { MOST_BATTERY = 0x20000 + 48 };
+/* what is shown at once has room on the smallest screen */
+enum { MOST_SHOWN = 64, MOST_LINE = 64, MOST_NAME = 24 };
+/* a leap back that is not taken */
+enum { YEAR = 366 * 86400 };
+#define IMPORT_OPTION "Begin with another core's save"
+
+/* What SAVE.time is to have, and its first line. */
+struct clock_text {
+    gbkeep_clock_line line;
+    uint8_t bytes[GBKEEP_CLOCK_TEXT];
+    size_t length;
+};
+
+enum work { NO_WORK, SAVE, CLAIM, NOTE };
+enum outcome { RUNNING, DONE, FAILED, LEFT };
+
+/* What the thread does. Once it is left, the thread frees it: it has all that it needs. */
+struct job {
+    enum work work;
+    atomic_int outcome;
+    pthread_t thread;
+    bool has_thread, is_told_slow;
+    long long since;
+    /* the file of SAVE, and of a save its calls */
+    int file;
+    uint32_t sectors;
+    gbkeep_call *calls;
+    size_t count, room;
+    /* what SAVE.time is to have */
+    char clock_file[PATH_MAX];
+    struct clock_text text;
+};
+
+enum news { NEWS, REFUSAL };
+enum messages { REFUSALS_ONLY, NONE, ALL };
+
+struct game {
+    /* a session, or of a second instance a machine */
+    gbkeep_session *session;
+    gbkeep_machine *machine;
+    struct job *job;
+    int file;
+    /* the image, while a game is made or taken up: what the calls that were handed out leave of SAVE */
+    uint8_t *rom, *image, *state;
+    size_t rom_length, state_length;
+    uint32_t sectors;
+    char cart[PATH_MAX], save[PATH_MAX], clock_file[PATH_MAX];
+    bool has_clock, gives_time_away, is_new, imports, exports;
+    enum messages messages;
+    unsigned save_frames, shown_frames, unsaved_frames;
+    /* The number of the last frame, which a state takes back, and of the one before the last save; and how many were played since that. */
+    unsigned long long frame, saved_frame, played;
+    /* inputs: all, those that no save was asked for, and those that are saved */
+    unsigned long long count, asked, saved;
+    /* what SAVE.time is to have once the save that was asked for is done, if anything */
+    struct clock_text note;
+    /* a state or the power switch is unsaved: the next save writes a whole state */
+    bool is_whole;
+    /* `state` is that behind the last input */
+    bool has_state;
+    gbkeep_clock clock;
+    bool clock_stands;
+    uint8_t shades[SHADES];
+    char fault[512], shown[MOST_SHOWN + 1];
+};
+
+extern struct game game;
+/* threads that were left behind */
+extern atomic_int left_behind;
+extern retro_environment_t environment;
+extern retro_log_printf_t log_line;
+
+/* system.c: times */
+long long milliseconds(void);
+/* a moment of a session: it goes on while the computer sleeps, where the system knows that */
+uint64_t moment(void);
+uint64_t date(void);
+/* waits a millisecond */
+void rest(void);
+/* system.c: threads */
+bool begin_thread(pthread_t *thread, void *(*work)(void *), void *given);
+void wait_for_thread(pthread_t thread);
+void leave_thread(pthread_t thread);
+/* system.c: files */
+struct found {
+    bool is_there, is_plain;
+    unsigned long long size;
+};
+/* what a path names, behind its links */
+struct found look_at(const char *path);
+/* what a name is, itself, in a folder; below -1 a path */
+struct found look_at_name(int folder, const char *name);
+void close_one(int *fd);
+bool write_at(int fd, const uint8_t *bytes, size_t size, off_t at);
+bool read_at(int fd, uint8_t *bytes, size_t size);
+/* Splits a path: opens its folder, and leaves the name of the file. */
+int open_folder(char path[PATH_MAX], const char **name);
+/* Makes a file of these bytes durable under a name that nobody has, and then gives it its own. What has that name is replaced, and its permissions stay. A file
+ * beside SAVE gets the owner of SAVE, which is open. */
+bool put_file(int folder, const char *name, const void *bytes, size_t size, int save);
+/* The first bytes of a plain file, `most` and one more; NULL where it can't be read. */
+uint8_t *read_file(const char *path, bool follows, size_t most, size_t *length);
+/* How many of the first bytes of a file beside SAVE there are, `most` at most: none where there is no such file, and -1 where it is nobody's own. */
+ssize_t read_own_file(const char *path, int save, uint8_t *bytes, size_t most);
+/* Gives a new file its name once it is whole, as `gbkeep new` does. Nothing but the empty file of such a call that was cut off is replaced. */
+bool make_file(const char *path, const uint8_t *bytes, size_t size);
+/* Opens SAVE as the program does: locks it, and syncs it, since what was written and not synced, by whomever, has to stand before it is read; -1 where it can't. */
+int open_save_file(const char *path, unsigned long long *size);
+/* Syncs SAVE, which then has to have a name still, and this size. */
+bool sync_save_file(int fd, unsigned long long size);
+/* Whether this very process has the file open, and locked. */
+bool is_open_here(const char *path);
+bool real_path(const char *path, char real[PATH_MAX]);
+void take_away(const char *path);
+
+/* messages.c */
+/* A line on the screen, where the option has it there, and in the log; `more` is for the log alone. */
+void tell(enum news kind, unsigned frames, const char *more, const char *format, ...);
+/* A line of the program's, and what docs/COMMANDS.md says to do about it: shortly on the screen, whole in the log. Answers false. */
+bool fail_with(const char *line, const char *command);
+/* The same for a code of the library, in the program's words. */
+bool fail_by(uint32_t code, const char *command);
+/* The name of a file, without its folder: the front and the end of one that has no room on the screen, of whole characters. */
+void name_shortly(char name[MOST_NAME + 1], const char *path);
+
+/* options.c */
+void offer_options(void);
+void read_options(void);
+/* four pixels for each four shades, of which a bit pair each is an index: the first in the lowest */
+extern uint32_t four_pixels[256][4];
+
+/* saves.c: what the thread does, and when it saves */
+void free_job(struct job *job);
+void begin_work(enum work kind);
+/* Leaves the thread to itself: it makes no further call, and frees what it has, the file and its lock, whenever the one that it is in ends. */
+void leave_work(void);
+/* Takes the calls that the session hands out, for the thread. */
+bool take_calls(gbkeep_session *session);
+/* Takes what the thread has done meanwhile. False where the game has ended. */
+bool look_around(void);
+/* Whether a save is due: by the frames that were not taken back by a state, or else by very many. */
+bool is_due(void);
+bool begin_save(void);
+bool wait_for_work(void);
+/* Saves what is unsaved, and waits for that. */
+bool save_game(void);
+/* Sees to it that the session can take an input: where many are unsaved, by a save, for which it waits only where the one before is not done. */
+bool has_room(void);
+/* An input was given, or why not. Where it can't be, what was given before is saved. */
+bool was_given(uint32_t code);
+
+/* clock.c: SAVE.time and the cartridge's clock */
+bool write_clock_file(const char *file, int save, const struct clock_text *text);
+bool note_clock(bool good);
+bool write_time(const struct clock_text *text);
+/* Has the thread write this text. */
+void begin_text(enum work kind, const struct clock_text *text);
+/* Gives the clock the seconds that SAVE.time was told of, as an input. */
+bool give_seconds(void);
+void begin_clock(void);
+
+/* memory.c: what the front end may look at */
+/* The state: encoded once behind an input, whoever wants it. */
+const uint8_t *state_now(void);
+/* Shows the memory to a front end that has asked for it. */
+void look_into(void);
+void show_memory(void);
+
+/* game.c */
+/* NAME and a suffix in the front end's save folder, or beside the cartridge where it has none. */
+bool name_file(char path[PATH_MAX], const char *cart, const char *suffix, bool is_beside);
+bool take_up(void);
+/* Ends the game. What is unsaved is lost. */
+void end_game(void);
+/* Ends it for this reason. */
+bool give_up(const char *line);
+bool give_up_by(uint32_t code);
+
+/* battery.c: battery files of other cores */
+/* The battery file that another core left for this cartridge; false where there is none. */
+bool find_battery(char path[PATH_MAX]);
+/* A battery file that is not taken begins no game: a SAVE without it would stand in its way for good. */
+bool refuse_battery(const char *path, const char *why);
+/* Says what another core's battery file was taken for. */
+void tell_battery(const char *path, bool is_taken);
+/* Leaves NAME.srm for other cores. */
+void leave_battery(void);

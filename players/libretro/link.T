@@ -1,0 +1,1 @@
+{ global: retro_*; local: *; };
