@@ -465,6 +465,10 @@ def test_what_files_are(folder):
     for name, head in (('none.gb', 'none.gb is not there'), ('text.txt', 'text.txt is no game'), ('', f'{folder.name} is a folder'), ('fifo.gb', 'fifo.gb can\'t be read')):
         expect(name, refused(lambda: intake.look(str(folder / name))).head, head)
     expect('colour', refused(lambda: intake.check_cart(str(folder / 'colour.gb'))).head, 'colour.gb is for the Game Boy Color alone')
+    with open(folder / 'long.gb', 'wb') as file:
+        file.truncate(intake.MOST_CART + 1)
+    told = refused(lambda: intake.check_cart(str(folder / 'long.gb')))
+    expect('long', (told.head, told.body.endswith(' more than 8,388,608 bytes. Choose another file.')), ('long.gb can\'t be used', True))
     expect('its title', intake.check_cart(str(CART)), 'GBKEEP DEMO')
 
 

@@ -75,8 +75,11 @@ def look(path: str) -> Found:
 
 def check_cart(path: str) -> str:
     """The title of a cartridge, which is one for this Game Boy."""
-    rom = read_bytes(path, MOST_CART)
     name = printable(Path(path).name)
+    try:
+        rom = read_bytes(path, MOST_CART)
+    except WrongInput as error:
+        raise Stopped(Told(f'{name} can\'t be used', f'{error}. Choose another file.', printable(error))) from None
     if len(rom) > 0x143 and rom[0x143] == ONLY_COLOUR:
         raise Stopped(Told(f'{name} is for the Game Boy Color alone', 'Games of the first Game Boy run here, and those that run on both. Choose another game.'))
     return title_in(rom)

@@ -62,10 +62,10 @@ def own_save(cart: str, chosen: str = '') -> str:
     """The SAVE of a cartridge that is given alone: its file's name and the beginning of its SHA-256, so that no two ROMs share one."""
     folder, digest = games_folder(chosen), digest_of(cart)
     folder.mkdir(parents=True, exist_ok=True)
-    name = folder / f'{Path(cart).stem}-{digest[:8]}'
-    # a game that was begun under another ending goes on
-    older = f'{name}.sav'
-    return older if os.path.lexists(older) and not os.path.lexists(f'{name}.gbkeep') else f'{name}.gbkeep'
+    stem, mark = Path(cart).stem, f'-{digest[:8]}'
+    # the cartridge of a zip has the mark in its own name; a game that was begun under another name goes on
+    names = [f'{folder / stem.removesuffix(mark)}{mark}.gbkeep', f'{folder / stem}{mark}.gbkeep', f'{folder / stem}{mark}.sav']
+    return next((name for name in names if os.path.lexists(name)), names[0])
 
 
 def is_save(data: bytes) -> bool:
