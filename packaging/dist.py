@@ -136,8 +136,8 @@ class Release:
         return [installed.File(one.package, one.path, data, True) if one.path == 'bin/gbkeep' else one for one in files]
 
     def documents(self, folder):
-        """The pages with what they lead to, and the examples, as git has them. The man page is installed as one."""
-        names = [name for name in said('git', 'ls-files', 'README.md', 'docs', 'examples').splitlines() if not name.endswith('.1')]
+        """The pages with what they lead to, and the examples, as git has them."""
+        names = said('git', 'ls-files', 'README.md', 'docs', 'examples').splitlines()
         found = [installed.File('gbkeep', f'{folder}/{name}', Path(name).read_bytes(), bool(os.stat(name).st_mode & 0o100)) for name in names]
         return [*found, installed.File('gbkeep', f'{folder}/BUILT', self.about.encode())]
 

@@ -15,6 +15,7 @@ from dataclasses import dataclass
 from pathlib import Path
 from typing import Optional
 
+import program_page
 from man_page import page, said_of
 
 PROGRAM, PYTHON, WINDOW, TESTERS, CORE, LIBRARY, HEADERS = ('gbkeep', 'python3-gbkeep', 'gbkeep-window', 'gbkeep-testers', 'gbkeep-libretro', 'libgbkeep0',
@@ -88,7 +89,7 @@ def files(built: Optional[object] = 'bin', lib: str = 'lib', prefix: str = '/usr
             started = [File(package, f'bin/{name}', OF_DEBIAN.format(module=module).encode(), True)]
         return [*started, File(package, f'share/man/man1/{name}.1', page(name, SOURCES / f'gbkeep/{module}.py', release).encode())]
 
-    found = [one(PROGRAM, 'bin/gbkeep', built / 'gbkeep', True), one(PROGRAM, 'share/man/man1/gbkeep.1', 'docs/gbkeep.1')]
+    found = [one(PROGRAM, 'bin/gbkeep', built / 'gbkeep', True), File(PROGRAM, 'share/man/man1/gbkeep.1', program_page.page(release).encode())]
     zsh = 'site-functions' if modules == ALONE else 'vendor-completions'
     for folder, suffix, source in (('share/bash-completion/completions', '', 'gbkeep.bash'), ('share/fish/vendor_completions.d', '.fish', 'gbkeep.fish')):
         found += [one(PROGRAM, f'{folder}/gbkeep{suffix}', f'completions/{source}')]

@@ -1,4 +1,4 @@
-"""Compares whole tables: what the sources say that the program has, and what README, COMMANDS, man page, completion, `make help`, the package of
+"""Compares whole tables: what the sources say that the program has, and what README, COMMANDS, completion, `make help`, the package of
 Python and its tools say of it. Then it deletes each row of each table, in turn and on a copy, and wants each deletion to be seen.
 
 usage: front_door.py             at the top of the repository
@@ -13,14 +13,13 @@ FAULT_FILES = ['crates/cartridge/src/error.rt', 'crates/sector_device/src/device
                'crates/streaming/src/error.rt', 'crates/recording/src/fault.rt', 'crates/replaying/src/error.rt', 'crates/recorded_play/src/error.rt', 'crates/battery_files/src/error.rt',
                'crates/debugging/src/error.rt', 'crates/commands/src/error.rt']
 FAULT_LINES, COMMANDS, LINES = 'crates/gbkeep/src/fault.rt', 'crates/command_line/specs/Commands.antt', 'crates/script/specs/Line.antt'
-README, MANUAL, MAN, COMPLETION, MAKE, TOOLS = 'README.md', 'docs/COMMANDS.md', 'docs/gbkeep.1', 'completions/gbkeep.bash', 'Makefile', 'python/gbkeep/faults.py'
+README, MANUAL, COMPLETION, MAKE, TOOLS = 'README.md', 'docs/COMMANDS.md', 'completions/gbkeep.bash', 'Makefile', 'python/gbkeep/faults.py'
 PLAYERS, TESTERS = 'docs/PLAYING.md', 'docs/TESTING_ROMS.md'
 ORDERS, STREAM_ORDERS, PROMPT = 'crates/debugging/specs/Orders.antt', 'crates/streaming/specs/Orders.antt', 'python/gbkeep/debug.py'
 WORDS, ARCHITECTURE = 'crates/command_line/src/words.rt', 'docs/ARCHITECTURE.md'
 # a library's answers: the program stops at the call that breaks a session or a recording, saves before 3,200 inputs are unsaved, and makes a
 # recording only in a new file
 NOT_OF_THE_PROGRAM = {'broken, open it again', 'save first', 'not blank'}
-OPTIONS = {'--help', '--version', '-h', '-V', '--'}
 # the library, where it is built
 BUILT = [Path('bin', name) for name in ('libgbkeep.so', 'libgbkeep.a', 'gbkeep.h', 'gbkeep.pc')]
 
@@ -84,23 +83,6 @@ def code(cell):
     return re.findall(r'`([^`]+)`', cell)
 
 
-def entries(text, section):
-    """The entries of a section of the man page, each as its text and its head without fonts."""
-    part = re.search(r'^\.SH %s\n(.*?)(?=^\.SH|\Z)' % section, text, re.S | re.M)
-    for entry in re.findall(r'^\.TP\n(?:(?!\.TP).*\n)+', part[1] if part else '', re.M):
-        yield entry, plain(entry.split('\n')[1])
-
-
-def plain(line):
-    line = re.sub(r'^\.[A-Z]+ |\\f[BIR]|"', '', line)
-    return re.sub(' +', ' ', line.replace('\\-', '-')).strip()
-
-
-def synopsis(text):
-    part = re.search(r'^\.SH SYNOPSIS\n(.*?)(?=^\.SH)', text, re.S | re.M)
-    return [(line + '\n', plain(line).removeprefix('gbkeep ')) for line in part[1].splitlines() if line.startswith('\\fBgbkeep')] if part else []
-
-
 @functools.lru_cache(None)
 def completed(script, *words):
     """What the completion answers for the last of these words."""
@@ -153,12 +135,6 @@ def differences(texts):
     prompt = re.search(r"^HELP = '''(.*?)'''", texts[PROMPT], re.S | re.M)
     wrong += compared(PROMPT, 'line of its help', re.findall(r'^  ([a-z-]+) ', prompt[1] if prompt else '', re.M), orders_of(texts))
     wrong += compared(README, 'command', [one for _, cells in rows(texts[README], 'Command') for one in code(cells[0])], heads)
-    wrong += compared(MAN, 'synopsis', [line for _, line in synopsis(texts[MAN]) if not line.startswith('-')], heads)
-    wrong += compared(MAN, 'command', [head for _, head in entries(texts[MAN], 'COMMANDS')], heads)
-    wrong += compared(MAN, 'option', [one for _, head in entries(texts[MAN], 'OPTIONS') for one in re.findall(r'--?\w*', head)], OPTIONS)
-    wrong += compared(MAN, 'line of a script', [head.split()[0] for _, head in entries(texts[MAN], 'SCRIPTS')], lines_of(texts))
-    wrong += compared(MAN, 'line of a debugger', [head.split()[0] for _, head in entries(texts[MAN], 'DEBUGGING')], orders_of(texts))
-    wrong += compared(MAN, 'fault', [one for _, head in entries(texts[MAN], 'DIAGNOSTICS') for one in parted(head)], faults)
     words = {*commands, 'help', '--help', '--version'}
     wrong += compared(COMPLETION, 'first word', completed(texts[COMPLETION], 'gbkeep', ''), words)
     wrong += compared(COMPLETION, 'word after help', completed(texts[COMPLETION], 'gbkeep', 'help', ''), commands)
@@ -200,23 +176,12 @@ def walks(text):
     return wrong + ([] if len(steps) > 20 else [f'{ARCHITECTURE} has no walks'])
 
 
-def parted(head):
-    """The faults of an entry: `too small, N sectors needed` is one, as `recording behind, N inputs` is, and several may stand in a row."""
-    return [head] if head.startswith(('too small', 'recording behind', 'recording ahead', 'battery length')) else head.split(', ')
-
-
 def deletions(texts):
     """Each row of each table, as (path, what to delete, what is left there)."""
     for path in (README, MANUAL):
         for heading in ('Command', 'Line after', 'Line | Means', 'Line | Answer', 'Line | Does'):
             for line, _ in rows(texts[path], heading):
                 yield path, line + '\n', ''
-    for line, _ in synopsis(texts[MAN]):
-        if '--' not in line:
-            yield MAN, line, ''
-    for section in ('COMMANDS', 'OPTIONS', 'SCRIPTS', 'DEBUGGING', 'DIAGNOSTICS'):
-        for entry, _ in entries(texts[MAN], section):
-            yield MAN, entry, ''
     for name in commands_of(texts):
         yield COMPLETION, f'{name} ' if f'{name} ' in texts[COMPLETION] else name, ''
         yield COMMANDS, re.search(r'usage \(codes "%s"\).*\n' % name, texts[COMMANDS])[0], ''
@@ -257,13 +222,6 @@ def blocks(text):
             else:
                 commands.append((line, []))
         yield commands
-
-
-def examples(text):
-    """The commands of the man page's examples."""
-    part = re.search(r'^\.SH EXAMPLES\n(.*?)(?=^\.SH|\Z)', text, re.S | re.M)
-    found = re.search(r'^\.nf\n(.*?)^\.fi', part[1] if part else '', re.S | re.M)
-    return [plain(line).replace('\\\\', '\\') for line in found[1].splitlines()] if found else []
 
 
 def shell(room, line, path=''):
@@ -326,12 +284,6 @@ def run_blocks(program, texts):
                             wrong.append(f'{page}: {line}\nprints\n{got}and not\n' + '\n'.join(wanted))
     with tempfile.TemporaryDirectory(prefix='front-') as room:
         clone(room, program)
-        for line in examples(texts[MAN]):
-            count += 1
-            status, got = shell(room, line, f'{room}/bin:')
-            wrong += [f'{MAN}: {line}: {got}'] if status != 0 else []
-        if not examples(texts[MAN]):
-            wrong.append(f'{MAN} has no examples')
         wrong += installed(room)
         wrong += completes_names(room, texts)
     return wrong, count
@@ -403,7 +355,7 @@ def completes_names(room, texts):
 
 
 def main():
-    texts = {path: Path(path).read_text() for path in [README, MANUAL, PLAYERS, TESTERS, MAN, COMPLETION, MAKE, TOOLS, COMMANDS, LINES, ORDERS, STREAM_ORDERS, PROMPT, FAULT_LINES, WORDS, ARCHITECTURE, *FAULT_FILES]}
+    texts = {path: Path(path).read_text() for path in [README, MANUAL, PLAYERS, TESTERS, COMPLETION, MAKE, TOOLS, COMMANDS, LINES, ORDERS, STREAM_ORDERS, PROMPT, FAULT_LINES, WORDS, ARCHITECTURE, *FAULT_FILES]}
     wrong, seen = differences(texts), 0
     for path, piece, left in deletions(texts) if not wrong else []:
         seen += 1
