@@ -1,5 +1,5 @@
 """What web/page has beside its sources, so that it is a site as it stands: the refusals of the library (faults.js), the texts that the window has, too
-(messages.js), the demo (demo.gb), what is known of the module (made.js), and the list of the page's files (files.js). None of it needs the toolchain; the module itself is made by scripts/web.py.
+(messages.js), its palettes (palettes.js), the demo (demo.gb), what is known of the module (made.js), and the list of the page's files (files.js). None of it needs the toolchain; the module itself is made by scripts/web.py.
 
 usage: page.py              makes them
        page.py check        status 1, and a line for each that is not as it is to be; notes where the module was made from other sources
@@ -13,6 +13,7 @@ import sys
 import zlib
 from pathlib import Path
 
+from gbkeep.palettes import NAMES, PALETTES
 from scripts.not_tried import note
 
 TOP = Path(__file__).resolve().parent.parent
@@ -22,7 +23,7 @@ MESSAGES = TOP / 'python/gbkeep/messages.json'
 DEMO = TOP / 'examples/demo/demo.gb'
 MODULE, OF, LIST = 'gbkeep.wasm.gz', 'gbkeep.wasm.of', 'files.js'
 # what this script makes, in this order: the list has the digests of the others
-MADE = ('demo.gb', 'faults.js', 'messages.js', 'made.js', LIST)
+MADE = ('demo.gb', 'faults.js', 'messages.js', 'palettes.js', 'made.js', LIST)
 # what a page needs without a network is all but these
 NOT_LISTED = {'README', 'service_worker.js', OF, LIST}
 MOST_BYTES = 640_000
@@ -139,6 +140,13 @@ def messages():
     return f'// Made by scripts/page.py of python/gbkeep/messages.json: the texts of the window, of which the page shows some.\nexport const MESSAGES = {shown};\n'.encode()
 
 
+def palettes():
+    """The palettes of the window."""
+    rows = ''.join(f'  {json.dumps(palette)}, // {name}\n' for name, palette in zip(NAMES, PALETTES))
+    return ('// Made by scripts/page.py of python/gbkeep/palettes.py: the colours of the four shades, darkest first, as red, green and blue.\n'
+            f'export const PALETTES = [\n{rows}];\n').encode()
+
+
 def about(folder):
     """What a page can tell of its module."""
     known = {'digest': digest(module_in(folder)), 'isOfSources': is_of_sources(folder)}
@@ -167,7 +175,8 @@ def list_files(folder):
 
 def wanted(name, folder):
     """The bytes of a made file."""
-    return {'demo.gb': DEMO.read_bytes, 'faults.js': faults, 'messages.js': messages, 'made.js': lambda: about(folder), LIST: lambda: list_of(folder)}[name]()
+    return {'demo.gb': DEMO.read_bytes, 'faults.js': faults, 'messages.js': messages, 'palettes.js': palettes,
+            'made.js': lambda: about(folder), LIST: lambda: list_of(folder)}[name]()
 
 
 def length(folder):

@@ -634,8 +634,8 @@ def test_refusals():
 
 def test_palettes():
     """The window, the page and the core have the same palettes, by one order of names."""
-    rows = re.search(r'^export const PALETTES = \[\n(.*?)^\];', (TOP / 'web/page/picture.js').read_text(), re.M | re.S)[1]
-    numbers = [int(number, 16) for number in re.findall('0x([0-9a-f]{2})', rows)]
+    made = (TOP / 'web/page/palettes.js').read_text()
+    numbers = [int(number) for number in re.findall('[0-9]+', made.partition('[')[2])]
     expect('the page', numbers, [part for palette in PALETTES for colour in palette for part in colour])
     offered = re.findall('name="palette" value="([0-9]+)"><span>(.*?)</span>', (TOP / 'web/page/index.html').read_text())
     expect('what the page offers', offered, [(str(place), name) for place, name in enumerate(NAMES)])

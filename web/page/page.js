@@ -7,7 +7,7 @@ import { Gamepads, Held, Keyboard } from './held.js';
 import { Home } from './home.js';
 import { stored, usualKeys, usualPad } from './keys.js';
 import { Menus } from './menu.js';
-import { PALETTES } from './picture.js';
+import { PALETTES } from './palettes.js';
 import { Playing } from './playing.js';
 import { forPrograms } from './programs.js';
 import { Refused } from './refusals.js';

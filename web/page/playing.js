@@ -2,7 +2,8 @@
 import { sha256 } from './digest.js';
 import { $ } from './dom.js';
 import { leave } from './downloads.js';
-import { PALETTES, pngOf } from './picture.js';
+import { PALETTES } from './palettes.js';
+import { pngOf } from './picture.js';
 import { Refused } from './refusals.js';
 import { noteOpen, remember } from './settings.js';
 import { isStill } from './state.js';
