@@ -127,6 +127,7 @@ pub fn open_recording<D: SectorDevice>(
     ensures looked { (D.disk device).honest → HasLooked (D.disk device) (D.disk (left_by_open result)) }
     ensures opened { IfOk result (λ recording. HasOpened (D.disk device) (D.disk (device_of recording)) id recording) }
     ensures cause { IfErr result (λ refused. IsOpenCause refused.why id (D.disk device)) }
+    ensures memory { IfErr result (λ refused. refused.why ≡ Memory → refused.device ≡ device) }
     ensures answered { HasAnswered (λ refused. faults_after refused.why) (D.disk device) (D.disk (left_by_open result))
         result }
 {
