@@ -53,6 +53,8 @@ help:
 	@echo '  make check      proves what changed, seconds a crate (CRATE=NAME for one)'
 	@echo '  make edits      tries every wrong body, 10 to 40 s each (CRATE=NAME for one)'
 	@echo '  make lint       looks at all Python by pyflakes3 (two seconds)'
+	@echo '  make refusals   makes the tables of refusals of docs, gbkeep.h, window and'
+	@echo '                  page anew (docs/ARCHITECTURE.md)'
 	@echo '  make test       the gate: proves everything from nothing, runs the tests and'
 	@echo '                  the programs, and ends with what was not tried, and why'
 	@echo '  make bench      counts what frames, pictures, steps and saves cost in what'
@@ -202,12 +204,16 @@ libretro: $(OUT)/gbkeep_libretro.so
 
 library: $(OUT)/libgbkeep.so
 
-$(OUT)/libgbkeep.so: $(SOURCES) $(wildcard library/*) scripts/library.py $(if $(ARCH),scripts/arm64/target.py) python/gbkeep/faults.py | $(LOOK)
+$(OUT)/libgbkeep.so: $(SOURCES) $(wildcard library/*) scripts/library.py $(if $(ARCH),scripts/arm64/target.py) | $(LOOK)
 	RT=$(RT) python3 -B scripts/library.py $(ARCH)
 
 test-library: bin/gbkeep bin/libgbkeep.so
 	python3 -B library/test_library.py bin/gbkeep
 	$(NUMPY_PYTHON) -B python/gbkeep_tests/test_env.py
+
+# what is made of the table of refusals
+refusals:
+	@python3 -B scripts/refusal_table.py && python3 -B scripts/page.py
 
 web:
 	RT=$(RT) python3 -B scripts/web.py
@@ -279,6 +285,7 @@ test:
 	python3 -B scripts/front_door.py
 	python3 -B packaging/completions.py check
 	python3 -B examples/speed/build.py check
+	python3 -B scripts/refusal_table.py --check
 	python3 -B scripts/page.py check
 	if python3 -B scripts/doctor.py --try 'the parts of the page that need no browser' node; then node --test web/tests/; fi
 	if python3 -B scripts/doctor.py --try 'the types of the scripts of the page' tsc; then tsc -p web/jsconfig.json; fi
@@ -336,7 +343,7 @@ test:
 	RT=$(RT) python3 -B packaging/dist.py passed $(PROGRAM)/out/gbkeep_program
 	@python3 -B scripts/not_tried.py ends
 
-TARGETS := build demo play install uninstall libretro dist run check edits lint test bench compare hostile fuzz faults strace memory test-window test-libretro library test-library test-arm64 test-packages test-reproducible test-slow-disk test-retroarch test-cards web test-web
+TARGETS := build demo play install uninstall libretro dist run check edits lint refusals test bench compare hostile fuzz faults strace memory test-window test-libretro library test-library test-arm64 test-packages test-reproducible test-slow-disk test-retroarch test-cards web test-web
 FREE := help doctor clean clean-cache
 $(TARGETS): | $(LOOK)
 .PHONY: $(TARGETS) $(FREE) looked

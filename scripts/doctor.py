@@ -191,6 +191,7 @@ TARGETS = {
     'check': (('rt',), ()),
     'edits': (('rt',), ()),
     'lint': (('pyflakes3',), ()),
+    'refusals': ((), ()),
     'test': (('rt', 'bash'), ()),
     'bench': (('rt', 'valgrind'), ('bin/gbkeep', 'bin/gbkeep_libretro.so')),
     'compare': ((), ('bin/gbkeep',)),

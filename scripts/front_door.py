@@ -9,38 +9,16 @@ from pathlib import Path
 
 from scripts.doctor import tries
 
-FAULT_FILES = ['crates/cartridge/src/error.rt', 'crates/sector_device/src/device.rt', 'crates/script/src/error.rt', 'crates/session/src/error.rt',
-               'crates/streaming/src/error.rt', 'crates/recording/src/fault.rt', 'crates/replaying/src/error.rt', 'crates/recorded_play/src/error.rt', 'crates/battery_files/src/error.rt',
-               'crates/debugging/src/error.rt', 'crates/commands/src/error.rt']
-FAULT_LINES, COMMANDS, LINES = 'crates/gbkeep/src/fault.rt', 'crates/command_line/specs/Commands.antt', 'crates/script/specs/Line.antt'
-README, MANUAL, COMPLETION, MAKE, TOOLS = 'README.md', 'docs/COMMANDS.md', 'completions/gbkeep.bash', 'Makefile', 'python/gbkeep/faults.py'
+COMMANDS, LINES = 'crates/command_line/specs/Commands.antt', 'crates/script/specs/Line.antt'
+README, MANUAL, COMPLETION, MAKE = 'README.md', 'docs/COMMANDS.md', 'completions/gbkeep.bash', 'Makefile'
 PLAYERS, TESTERS = 'docs/PLAYING.md', 'docs/TESTING_ROMS.md'
 ORDERS, STREAM_ORDERS, PROMPT = 'crates/debugging/specs/Orders.antt', 'crates/streaming/specs/Orders.antt', 'python/gbkeep/debug.py'
 WORDS, ARCHITECTURE = 'crates/command_line/src/words.rt', 'docs/ARCHITECTURE.md'
-# a library's answers: the program stops at the call that breaks a session or a recording, saves before 3,200 inputs are unsaved, and makes a
-# recording only in a new file
-NOT_OF_THE_PROGRAM = {'broken, open it again', 'save first', 'not blank'}
 # the library, where it is built
 BUILT = [Path('bin', name) for name in ('libgbkeep.so', 'libgbkeep.a', 'gbkeep.h', 'gbkeep.pc')]
 
 
 # ---- what the sources have
-
-def faults_of(texts):
-    """The lines after `gbkeep: `, with N for a number and XX for two hexadecimal digits."""
-    found = {one for path in FAULT_FILES for one in re.findall(r'#\[error\("([^"]+)"', texts[path])}
-    found |= set(re.findall(r'"gbkeep: ([^"]+?)(?:\\n)?"', texts[FAULT_LINES]))
-    damaged = {one for one in re.findall(r'enum Damage \{(.*?)^\}', texts['crates/session/src/error.rt'], re.S | re.M)
-               for one in re.findall(r'#\[error\("([^"]+)"', one)}
-    found = {one for one in found - damaged if not one.startswith('{')}
-    found = (found - {'damaged {0}'}) | {f'damaged {one}' for one in damaged if 'damaged {0}' in found}
-    return {with_n(re.sub(r'\{\d:02X\}', 'XX', one)) for one in found} - NOT_OF_THE_PROGRAM
-
-
-def with_n(text):
-    """A text with N for each number of sectors, inputs, .. in it."""
-    return re.sub(r'\{\w+\}|(?<=, )2(?= sectors)', 'N', text.replace('{needed}', 'M'))
-
 
 def commands_of(texts):
     """Each command with its operands and the ranges of its numbers."""
@@ -90,13 +68,6 @@ def completed(script, *words):
     return tuple(sorted(subprocess.run(['bash', '-c', asked], capture_output=True, text=True).stdout.split()))
 
 
-def advice_of(texts):
-    """The table of the player's tools."""
-    space = {}
-    exec(texts[TOOLS], space)
-    return space['FAULTS']
-
-
 def helps(texts):
     """The targets that `make help` lists."""
     return re.findall(r"^\t@echo '  make ([\w-]+)", texts[MAKE], re.M)
@@ -118,16 +89,11 @@ def compared(place, what, got, wanted):
 
 
 def differences(texts):
-    commands, faults, wrong = commands_of(texts), faults_of(texts), []
+    commands, wrong = commands_of(texts), []
     heads = {' '.join([name, *operands]) for name, (operands, _) in commands.items()}
-    table = advice_of(texts)
-    wrong += compared(TOOLS, 'fault', {re.sub(r'\b0$', 'N', fault) for fault, *_ in table}, faults)
-    manual = rows(texts[MANUAL], 'Line after')
     wrong += compared(MANUAL, 'command', [code(cells[0])[0] for _, cells in rows(texts[MANUAL], 'Command')], heads)
     wrong += [f'{MANUAL} does not say {span!r} of {cells[0]}' for _, cells in rows(texts[MANUAL], 'Command')
               for span in commands.get(code(cells[0])[0].split()[0], ((), ()))[1] if f'({span}' not in cells[1]]
-    wrong += compared(MANUAL, 'row of a fault', [tuple(cells) for _, cells in manual],
-                      {(f'`{fault}`' + (f', of `{of}`' if of else ''), means, advice) for fault, of, means, advice in table})
     wrong += compared(MANUAL, 'line of a script', [code(one)[0].split()[0] for _, cells in rows(texts[MANUAL], 'Line | Means') for one in cells[:1]], lines_of(texts))
     wrong += compared(MANUAL, 'line of a stream', [one.split()[0] for _, cells in rows(texts[MANUAL], 'Line | Answer') for one in code(cells[0])],
                       lines_of(texts) | stream_lines_of(texts))
@@ -179,22 +145,12 @@ def walks(text):
 def deletions(texts):
     """Each row of each table, as (path, what to delete, what is left there)."""
     for path in (README, MANUAL):
-        for heading in ('Command', 'Line after', 'Line | Means', 'Line | Answer', 'Line | Does'):
+        for heading in ('Command', 'Line | Means', 'Line | Answer', 'Line | Does'):
             for line, _ in rows(texts[path], heading):
                 yield path, line + '\n', ''
     for name in commands_of(texts):
         yield COMPLETION, f'{name} ' if f'{name} ' in texts[COMPLETION] else name, ''
         yield COMMANDS, re.search(r'usage \(codes "%s"\).*\n' % name, texts[COMMANDS])[0], ''
-    for path in FAULT_FILES:
-        for line in re.findall(r'^ *#\[error\("[^"{][^"]*"\)\]\n', texts[path], re.M):
-            # a line that another crate's table has too is not gone
-            others = {line.strip(), line.strip().replace('"', '"damaged ', 1)}
-            if sum(with_n(texts[other]).count(with_n(one)) for other in FAULT_FILES for one in others) == 1 and not re.search('|'.join(NOT_OF_THE_PROGRAM), line):
-                text = re.search(r'"(.*)"', line)[1]
-                if f'gbkeep: {text}' not in texts[FAULT_LINES] and f'gbkeep: {re.sub(r"{.*", "", text)}' not in texts[FAULT_LINES]:
-                    yield path, line, ''
-    for entry in re.findall(r"^    \('.*?'\),\n|^    \('[^\n]*\n     '[^\n]*'\),\n", texts[TOOLS], re.M):
-        yield TOOLS, entry, ''
     for line in re.findall(r"^\t@echo '  make .*\n", texts[MAKE], re.M):
         yield MAKE, line, ''
     names = '|'.join(sorted(orders_of(texts) | {'save'}))
@@ -355,13 +311,13 @@ def completes_names(room, texts):
 
 
 def main():
-    texts = {path: Path(path).read_text() for path in [README, MANUAL, PLAYERS, TESTERS, COMPLETION, MAKE, TOOLS, COMMANDS, LINES, ORDERS, STREAM_ORDERS, PROMPT, FAULT_LINES, WORDS, ARCHITECTURE, *FAULT_FILES]}
+    texts = {path: Path(path).read_text() for path in [README, MANUAL, PLAYERS, TESTERS, COMPLETION, MAKE, COMMANDS, LINES, ORDERS, STREAM_ORDERS, PROMPT, WORDS, ARCHITECTURE]}
     wrong, seen = differences(texts), 0
     for path, piece, left in deletions(texts) if not wrong else []:
         seen += 1
         if not differences({**texts, path: texts[path].replace(piece, left, 1)}):
             wrong.append(f'{path}: nobody sees that {piece.strip()!r} is gone')
-    done = f'{len(commands_of(texts))} commands, {len(faults_of(texts))} faults, {seen} deletions seen'
+    done = f'{len(commands_of(texts))} commands, {seen} deletions seen'
     if len(sys.argv) > 1 and not wrong:
         program = os.path.abspath(sys.argv[1])
         wrong, count = run_blocks(program, texts)

@@ -80,30 +80,15 @@ def prove_library(crate):
         run([os.environ.get('RT', 'rt'), 'lib'], cwd=crate, stdout=subprocess.DEVNULL)
 
 
-def made(*words):
-    """What library/codes.py prints."""
-    return run([sys.executable, '-B', LIBRARY / 'codes.py', *words], stdout=subprocess.PIPE, text=True).stdout
-
-
-def header():
-    """gbkeep.h with its codes."""
-    lines = (LIBRARY / 'gbkeep.h.in').read_text(encoding='utf-8')
-    mark = '/* THE CODES */\n'
-    if lines.count(mark) != 1:
-        sys.exit('library.py: library/gbkeep.h.in has no place for the codes')
-    return lines.replace(mark, '/* What a call answers. The lines of `gbkeep`, the program, with the same words have the same meaning. */\n' + made('codes'))
-
-
 def build(out, proved, compiler, debug=False, archiver='ar'):
     """The archive and the shared object in `out`, of the proved archive."""
     out.mkdir(parents=True, exist_ok=True)
-    (out / 'gbkeep.h').write_text(header(), encoding='utf-8')
-    (out / 'gbkeep_faults.h').write_text(made(), encoding='utf-8')
+    (out / 'gbkeep.h').write_bytes((LIBRARY / 'gbkeep.h').read_bytes())
     flags = FLAGS + (['-DGBKEEP_DEBUG', '-g', *debug] if debug else [])
     objects = []
     for name in ('gbkeep', 'heap'):
         objects.append(out / f'{name}.o')
-        run([compiler, *flags, f'-I{out}', '-c', LIBRARY / f'{name}.c', '-o', objects[-1]])
+        run([compiler, *flags, '-c', LIBRARY / f'{name}.c', '-o', objects[-1]])
     archive = out / 'libgbkeep.a'
     archive.write_bytes(proved.read_bytes())
     run([archiver, 'rD', archive, *objects], stderr=subprocess.DEVNULL)
@@ -112,7 +97,7 @@ def build(out, proved, compiler, debug=False, archiver='ar'):
     if not debug:
         run([compiler, '-shared', '-s', f'-Wl,-soname,{SONAME}', f'-Wl,--version-script={names}', '-Wl,--gc-sections', '-Wl,-z,relro,-z,now',
              '-o', out / SHARED, '-Wl,--whole-archive', archive, '-Wl,--no-whole-archive'])
-    for made_on_the_way in (*objects, names, out / 'gbkeep_faults.h'):
+    for made_on_the_way in (*objects, names):
         made_on_the_way.unlink()
 
 

@@ -1,5 +1,6 @@
-"""What web/page has beside its sources, so that it is a site as it stands: the refusals of the library (faults.js), the texts that the window has, too
-(messages.js), its palettes (palettes.js), the demo (demo.gb), what is known of the module (made.js), and the list of the page's files (files.js). None of it needs the toolchain; the module itself is made by scripts/web.py.
+"""What web/page has beside its sources, so that it is a site as it stands: the texts and the palettes that the window has, too (messages.js,
+palettes.js), the demo (demo.gb), what is known of the module (made.js), and the list of the page's files (files.js). None of it needs the
+toolchain. The refusals of the library (faults.js) are made by scripts/refusal_table.py, the module by scripts/web.py.
 
 usage: page.py              makes them
        page.py check        status 1, and a line for each that is not as it is to be; notes where the module was made from other sources
@@ -8,7 +9,6 @@ import gzip
 import hashlib
 import json
 import re
-import subprocess
 import sys
 import zlib
 from pathlib import Path
@@ -23,12 +23,12 @@ MESSAGES = TOP / 'python/gbkeep/messages.json'
 DEMO = TOP / 'examples/demo/demo.gb'
 MODULE, OF, LIST = 'gbkeep.wasm.gz', 'gbkeep.wasm.of', 'files.js'
 # what this script makes, in this order: the list has the digests of the others
-MADE = ('demo.gb', 'faults.js', 'messages.js', 'palettes.js', 'made.js', LIST)
+MADE = ('demo.gb', 'messages.js', 'palettes.js', 'made.js', LIST)
 # what a page needs without a network is all but these
 NOT_LISTED = {'README', 'service_worker.js', OF, LIST}
 MOST_BYTES = 640_000
 # what the module is made of, beside the crates
-OTHER_SOURCES = ('library/gbkeep.c', 'library/gbkeep.h.in', 'library/codes.py', 'python/gbkeep/faults.py', 'web/heap.c', 'web/heap.h', 'web/memory.c',
+OTHER_SOURCES = ('library/gbkeep.c', 'library/gbkeep.h', 'library/gbkeep_faults.h', 'web/heap.c', 'web/heap.h', 'web/memory.c',
                  'web/include/*.h', 'scripts/web.py', 'scripts/memory32.py')
 
 
@@ -128,11 +128,6 @@ def digest(data):
     return hashlib.sha256(data).hexdigest()
 
 
-def faults():
-    """The refusals of the library, as the page shows them."""
-    return subprocess.run([sys.executable, '-B', WEB / 'faults.py'], stdout=subprocess.PIPE, check=True).stdout
-
-
 def messages():
     """The texts that the page shows as the window does."""
     texts = json.loads(MESSAGES.read_text(encoding='utf-8'))
@@ -175,7 +170,7 @@ def list_files(folder):
 
 def wanted(name, folder):
     """The bytes of a made file."""
-    return {'demo.gb': DEMO.read_bytes, 'faults.js': faults, 'messages.js': messages, 'palettes.js': palettes,
+    return {'demo.gb': DEMO.read_bytes, 'messages.js': messages, 'palettes.js': palettes,
             'made.js': lambda: about(folder), LIST: lambda: list_of(folder)}[name]()
 
 

@@ -241,14 +241,12 @@ def check_module(module):
 def link(kit, room, text):
     """Compiles the changed module, the C of the library and the heap, and links them. Answers the bytes."""
     clang = kit / 'toolchain/bin/clang'
-    (room / 'gbkeep.h').write_text(library.header(), encoding='utf-8')
-    (room / 'gbkeep_faults.h').write_text(library.made(), encoding='utf-8')
     (room / 'wasm.ll').write_text(text, encoding='utf-8')
     objects = [room / 'wasm.o']
     run([clang, f'--target={TRIPLE}', *FEATURES, *CLANG, '-O3', '-x', 'ir', '-c', room / 'wasm.ll', '-o', objects[0]])
     for source in (TOP / 'library/gbkeep.c', WEB / 'heap.c', WEB / 'memory.c'):
         objects.append(room / f'{source.stem}.o')
-        run([clang, f'--target={TRIPLE}', *FEATURES, *CLANG, *C, '-O2', f'-I{room}', f'-I{WEB / "include"}', f'-I{WEB}', '-c', source, '-o', objects[-1]])
+        run([clang, f'--target={TRIPLE}', *FEATURES, *CLANG, *C, '-O2', f'-I{WEB / "include"}', f'-I{WEB}', '-c', source, '-o', objects[-1]])
     linker = room / 'wasm-ld'
     linker.symlink_to(kit / 'toolchain/bin/ld.lld')
     run([linker, '-mwasm64', '--no-entry', '--fatal-warnings', '--gc-sections', '--strip-all', '--stack-first', '-z', f'stack-size={STACK}',

@@ -131,8 +131,9 @@ void take_away(const char *path);
 /* messages.c */
 /* A line on the screen, where the option has it there, and in the log; `more` is for the log alone. */
 void tell(enum news kind, unsigned frames, const char *more, const char *format, ...);
-/* A line of the program's, and what docs/COMMANDS.md says to do about it: shortly on the screen, whole in the log. Answers false. */
-bool fail_with(const char *line, const char *command);
+/* A refusal with its text, as the program tells it, and what docs/COMMANDS.md says to do about it: shortly on the screen, whole in the log. Code 0 is none of
+ * the table's. Answers false. */
+bool fail_with(uint32_t code, const char *text, const char *command);
 /* The same for a code of the library, in the program's words. */
 bool fail_by(uint32_t code, const char *command);
 /* The name of a file, without its folder: the front and the end of one that has no room on the screen, of whole characters. */

@@ -3,6 +3,7 @@
 #include <stdio.h>
 #include <stdlib.h>
 #include <string.h>
+#include "tables.h"
 
 struct game game = {.file = -1};
 
@@ -73,12 +74,12 @@ static bool begin_game(void) {
     gbkeep_session_free(session);
     game.job->count = 0;
     if (!good)
-        return fail_with("no memory", "new");
+        return fail_by(GBKEEP_NO_MEMORY, "new");
     good = make_file(game.save, game.image, (size_t)game.sectors * SECTOR);
     free(game.image);
     game.image = NULL;
     if (!good)
-        return fail_with("device failed", "new");
+        return fail_by(GBKEEP_DEVICE_FAILED, "new");
     unmark();
     if (has_battery)
         tell_battery(path, imported == GBKEEP_DONE);
@@ -91,18 +92,18 @@ static bool open_save(void) {
     unsigned long long size;
     game.file = open_save_file(game.save, &size);
     if (game.file < 0)
-        return fail_with("device failed", "stream");
+        return fail_by(GBKEEP_DEVICE_FAILED, "stream");
     if (size % SECTOR != 0 || size > (unsigned long long)MOST_SECTORS * SECTOR) {
         snprintf(line, sizeof line, "device size %llu", size);
-        return fail_with(line, "stream");
+        return fail_with(GBKEEP_DEVICE_SIZE, line, "stream");
     }
     game.sectors = (uint32_t)(size / SECTOR);
     game.image = malloc((size_t)size + 1);
     if (!game.image)
-        return fail_with("no memory", "stream");
+        return fail_by(GBKEEP_NO_MEMORY, "stream");
     if (!read_at(game.file, game.image, (size_t)size))
-        return fail_with("device failed", "stream");
-    return !find_mark(mark) || fail_with("recorded game: play it by record", "stream");
+        return fail_by(GBKEEP_DEVICE_FAILED, "stream");
+    return !find_mark(mark) || fail_with(FAULT_RECORDED_GAME, "recorded game: play it by record", "stream");
 }
 
 /* Whether this is a second load of the game: this very process has SAVE open, and by no thread that was left. */
@@ -115,9 +116,9 @@ bool take_up(void) {
     game.rom = read_file(game.cart, true, MOST_ROM, &game.rom_length);
     game.job = calloc(1, sizeof *game.job);
     if (!game.rom)
-        return fail_with("file failed", "stream");
+        return fail_with(FAULT_FILE_FAILED, "file failed", "stream");
     if (!game.job)
-        return fail_with("no memory", "stream");
+        return fail_by(GBKEEP_NO_MEMORY, "stream");
     game.job->file = -1;
     code = gbkeep_session_sectors(game.rom, game.rom_length, &needed);
     if (code != GBKEEP_DONE)
@@ -126,7 +127,7 @@ bool take_up(void) {
         code = gbkeep_machine_new(game.rom, game.rom_length, &game.machine);
         game.state_length = code == GBKEEP_DONE ? gbkeep_machine_state_length(game.machine) : 0;
         game.state = malloc(game.state_length + 1);
-        return (code == GBKEEP_DONE && game.state) || fail_with("no memory", "stream");
+        return (code == GBKEEP_DONE && game.state) || fail_by(GBKEEP_NO_MEMORY, "stream");
     }
     game.has_clock = game.rom[0x147] == 0x0f || game.rom[0x147] == 0x10;
     struct found there = look_at_name(-1, game.save);
@@ -142,7 +143,7 @@ bool take_up(void) {
     game.state_length = gbkeep_session_state_length(game.session);
     game.state = malloc(game.state_length + 1);
     if (!game.state || !take_calls(game.session))
-        return fail_with("no memory", "stream");
+        return fail_by(GBKEEP_NO_MEMORY, "stream");
     game.count = game.asked = game.saved = gbkeep_session_count(game.session);
     begin_work(SAVE);
     if (!wait_for_work())
@@ -175,7 +176,7 @@ void end_game(void) {
 
 bool give_up(const char *line) {
     end_game();
-    return fail_with(line, "stream");
+    return fail_with(0, line, "stream");
 }
 
 bool give_up_by(uint32_t code) {

@@ -87,7 +87,7 @@ RETRO_API bool retro_load_game(const struct retro_game_info *info) {
     int more = snprintf(game.cart, sizeof game.cart, "%s", info->path);
     if (more <= 0 || (size_t)more >= sizeof game.cart || !name_file(game.save, game.cart, ".gbkeep", false)
         || !name_file(game.clock_file, game.cart, ".gbkeep.time", false))
-        fail_with("the name of the cartridge is too long", "");
+        fail_with(0, "the name of the cartridge is too long", "");
     else if (!take_up())
         end_game();
     /* a game that is refused stays loaded, so that the player can read why */

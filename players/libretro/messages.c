@@ -20,27 +20,6 @@ void tell(enum news kind, unsigned frames, const char *more, const char *format,
         log_line(RETRO_LOG_INFO, "gbkeep: %s\n", more);
 }
 
-static bool fits(const char *pattern, const char *line) {
-    /* N and M stand for numbers, XX for two hexadecimal digits; the library leaves out a number at the end */
-    for (; *pattern; pattern++) {
-        if (strcmp(pattern, " N") == 0 && !*line)
-            return true;
-        if (*pattern == 'N' || *pattern == 'M') {
-            if (*line < '0' || *line > '9')
-                return false;
-            while (*line >= '0' && *line <= '9')
-                line++;
-        } else if (pattern[0] == 'X' && pattern[1] == 'X') {
-            if (!line[0] || !line[1])
-                return false;
-            pattern++, line += 2;
-        } else if (*line++ != *pattern) {
-            return false;
-        }
-    }
-    return *line == 0;
-}
-
 /* The front of a text that has room on the screen: up to a mark or a blank. */
 static void cut_short(char *text, size_t least) {
     static const char end[] = " (see the log)";
@@ -55,18 +34,17 @@ static void cut_short(char *text, size_t least) {
     memcpy(text + length, end, sizeof end);
 }
 
-bool fail_with(const char *line, const char *command) {
-    const char *text = strncmp(line, "gbkeep: ", 8) == 0 ? line + 8 : line;
+bool fail_with(uint32_t code, const char *text, const char *command) {
     const struct fault *found = NULL;
     char shown[700];
-    for (const struct fault *one = FAULTS; one->line; one++)
-        if (fits(one->line, text) && (!one->of[0] || strcmp(one->of, command) == 0) && (!found || one->of[0]))
+    for (const struct fault *one = FAULTS; one->code; one++)
+        if (one->code == code && (!one->of[0] || strcmp(one->of, command) == 0) && (!found || one->of[0]))
             found = one;
     if (found)
         snprintf(game.fault, sizeof game.fault, "%s: %s. What to do: %s.", text, found->means, found->advice);
     else
         snprintf(game.fault, sizeof game.fault, "%s", text);
-    if (found && strcmp(text, "device failed") == 0 && !found->of[0])
+    if (found && code == GBKEEP_DEVICE_FAILED && !found->of[0])
         snprintf(shown, sizeof shown, "SAVE is open elsewhere, or can't be read or written");
     else if (found)
         snprintf(shown, sizeof shown, "%s: %s", text, found->means);
@@ -101,7 +79,7 @@ bool fail_by(uint32_t code, const char *command) {
     default:
         snprintf(line, sizeof line, "%.*s", (int)strcspn(gbkeep_fault_text(code), ":"), gbkeep_fault_text(code));
     }
-    return fail_with(line, command);
+    return fail_with(code, line, command);
 }
 
 void name_shortly(char name[MOST_NAME + 1], const char *path) {

@@ -113,7 +113,7 @@ static bool ask_save(bool is_noted) {
     if (code != GBKEEP_DONE)
         return give_up_by(code);
     if (!take_calls(game.session))
-        return give_up("no memory");
+        return give_up_by(GBKEEP_NO_MEMORY);
     game.asked = count, game.is_whole = false;
     game.played = 0, game.saved_frame = game.frame;
     if (game.has_clock && is_noted)
@@ -143,7 +143,7 @@ bool look_around(void) {
     job->work = NO_WORK;
     if (done == SAVE) {
         if (outcome != DONE)
-            return give_up("device failed");
+            return give_up_by(GBKEEP_DEVICE_FAILED);
         bool is_told = game.saved == game.asked;
         game.saved = game.asked;
         if (!is_told)

@@ -2,8 +2,9 @@
 
 usage: tables_h.py > tables.h"""
 import json
+import re
 
-from gbkeep.faults import FAULTS
+from gbkeep.faults import CODES, FAULTS
 from gbkeep.palettes import NAMES, PALETTES
 
 
@@ -12,10 +13,17 @@ def quoted(text):
 
 
 print('/* made by tables_h.py of python/gbkeep/faults.py and python/gbkeep/palettes.py */')
-print('struct fault { const char *line, *of, *means, *advice; };')
+print('/* the code of each refusal: those of gbkeep.h are among them */')
+print('enum {')
+for line, code in CODES.items():
+    print(f"    FAULT_{re.sub(r'[^a-z]+', '_', re.split(r',? (?:N|XX)|:', line)[0]).upper()} = {code},")
+print('};')
+print('struct fault { uint32_t code; const char *of, *means, *advice; };')
 print('static const struct fault FAULTS[] = {')
 for line, of, means, advice in FAULTS:
-    print(f'    {{{quoted(line)}, {quoted(of or "")}, {quoted(means)}, {quoted(advice)}}},')
+    # of one number of a line the core has no words
+    if line in CODES:
+        print(f'    {{{CODES[line]}, {quoted(of)}, {quoted(means)}, {quoted(advice)}}},')
 print('    {0, 0, 0, 0},\n};')
 print('/* darkest first */')
 print('static const uint32_t PALETTES[][4] = {')

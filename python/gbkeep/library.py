@@ -22,23 +22,23 @@ from collections.abc import Callable, Iterator
 from types import TracebackType
 from typing import BinaryIO, NamedTuple, Optional, SupportsIndex
 
-from .faults import FAULTS
+from .faults import CODES, FAULTS
 from .game import Picture, prefix
 from .input_files import SECTOR
 from .machines import MOST_GIVEN, PICTURE_LENGTH, Buffer, Cart, NoState, Played, Refused, bytes_of, number, rom_of
 
-SAVE_FIRST, DAMAGED_SNAPSHOT, OTHER_CARTRIDGE, NO_TIME = 15, 6, 10, 22
+SAVE_FIRST, DAMAGED_SNAPSHOT, OTHER_CARTRIDGE, NO_TIME = (CODES[one] for one in ('save first', 'damaged snapshot', 'other cartridge', 'no time'))
 MOST_UNSAVED = 3_200
 # Python sees a Ctrl-C when a call of C has ended: of so many frames within some 50 ms
 FRAMES_AT_ONCE = 1_000
 # what to do about a refusal, where it is another thing than for a program that has files
 ADVICE = {
-    'device failed': '',
-    'no session': 'begin one: `Session` without an image',
-    'too small': '`sectors_needed` says how many it needs',
-    'damaged snapshot': 'take a copy of the image',
-    'save first': '`save`, and make the calls that `calls` hands out',
-    'no battery': 'begin it without a battery file',
+    CODES['device failed']: '',
+    CODES['no session']: 'begin one: `Session` without an image',
+    CODES['too small, N sectors needed']: '`sectors_needed` says how many it needs',
+    DAMAGED_SNAPSHOT: 'take a copy of the image',
+    SAVE_FIRST: '`save`, and make the calls that `calls` hands out',
+    CODES['no battery']: 'begin it without a battery file',
 }
 
 
@@ -66,10 +66,9 @@ def find_library() -> str:
     return os.environ.get('GBKEEP_LIBRARY') or next((str(one) for one in beside if one.exists()), 'libgbkeep.so.0')
 
 
-def advice_of(line: str) -> str:
-    """What to do about a line of the library, which is one of the table without its numbers, whatever the command."""
-    cut = ((fault.partition(',')[0].removesuffix(' N').removesuffix(' XX'), advice) for fault, of, _, advice in FAULTS if not of)
-    return ADVICE[line] if line in ADVICE else next((advice for fault, advice in cut if fault == line), '')
+def advice_of(code: int) -> str:
+    """What to do about a refusal of the library, whatever the command."""
+    return ADVICE[code] if code in ADVICE else next((advice for fault, of, _, advice in FAULTS if CODES.get(fault) == code and not of), '')
 
 
 _POINTER, _LENGTH, _WORD, _LONG = ctypes.c_void_p, ctypes.c_size_t, ctypes.c_uint32, ctypes.c_uint64
@@ -144,7 +143,7 @@ def _text(code: int) -> tuple[str, str]:
 def _done(code: int) -> None:
     if code != 0:
         line, means = _text(code)
-        raise Refused(line, '', means, advice_of(line), code)
+        raise Refused(line, '', means, advice_of(code), code)
 
 
 class _Pointer:

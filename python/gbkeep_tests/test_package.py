@@ -16,7 +16,7 @@ from pathlib import Path
 from unittest import mock
 
 import gbkeep
-from gbkeep.faults import explained
+from gbkeep.faults import CODES, explained
 from gbkeep.game import PICTURE_HEAD, bytes_of, started
 from gbkeep.library import advice_of
 from gbkeep.machines import number, room_of
@@ -113,7 +113,7 @@ def test_refusals(folder):
     # a line that two commands explain in their own way
     expect('of a stream', explained('gbkeep: other cartridge', 'stream'), ('the game in SAVE is of another ROM; or the state behind a `restore` is, and what was given before is saved',
                                                                            'use the ROM that it was begun with; give a state of this cartridge'))
-    expect('of any other', [explained('gbkeep: other cartridge', command)[1] for command in ('play', 'record')] + [advice_of('other cartridge')],
+    expect('of any other', [explained('gbkeep: other cartridge', command)[1] for command in ('play', 'record')] + [advice_of(CODES['other cartridge'])],
            ['use the ROM that it was begun with'] * 3)
     expect('no state is a wrong value, too', (issubclass(gbkeep.NoState, ValueError), issubclass(gbkeep.NoState, gbkeep.Refused)), (True, True))
     refused = gbkeep.Refused('gbkeep: device failed', 'new')

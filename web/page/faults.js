@@ -1,4 +1,4 @@
-// Made by web/faults.py of library/codes.py and python/gbkeep/faults.py: line, meaning and advice of each code.
+// Made by scripts/refusal_table.py: line, meaning and advice of each code.
 export const FAULTS = [
   ["done", "", ""],
   ["no memory", "memory was refused; what was saved stays saved", "close other tabs"],

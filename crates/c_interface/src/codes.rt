@@ -1,4 +1,4 @@
-//! Refusals as numbers. `library/codes.py` has the same table.
+//! Refusals as numbers, as `refusals` has them.
 
 ghost use Rattle.std.specs.Prelude.{◌≡◌};
 ghost use Rattle.c_interface.specs.Codes.{done, cart_code, snapshot_code, console_code, session_code, game_code};

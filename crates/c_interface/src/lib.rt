@@ -1,4 +1,4 @@
-//! The machine and the session of `embedding` and the clock of `cartridge_clock` for C. `library/gbkeep.h.in` declares what a program calls;
+//! The machine and the session of `embedding` and the clock of `cartridge_clock` for C. `library/gbkeep.h` declares what a program calls;
 //! `library/gbkeep.c` stands between that and these exports.
 //!
 //! A handle is the address of a box. Each export of a machine or a session takes the handle, by value, and leaves it again in `out`, which may be where it was: what

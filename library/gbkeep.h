@@ -21,7 +21,34 @@
 extern "C" {
 #endif
 
-/* THE CODES */
+/* begin made by scripts/refusal_table.py */
+/* What a call answers. The lines of `gbkeep`, the program, with the same words have the same meaning. */
+enum {
+    GBKEEP_DONE = 0,
+    GBKEEP_NO_MEMORY = 1,
+    GBKEEP_ROM_LENGTH = 2,
+    GBKEEP_CARTRIDGE_TYPE = 3,
+    GBKEEP_RAM_CODE = 4,
+    GBKEEP_TOO_MANY_BANKS = 5,
+    GBKEEP_DAMAGED_SNAPSHOT = 6,
+    GBKEEP_DEVICE_FAILED = 7,
+    GBKEEP_NO_SESSION = 8,
+    GBKEEP_TOO_SMALL = 9,
+    GBKEEP_OTHER_CARTRIDGE = 10,
+    GBKEEP_DAMAGED_COUNT = 11,
+    GBKEEP_DAMAGED_ENTRY = 12,
+    GBKEEP_GENERATIONS_USED_UP = 13,
+    GBKEEP_COUNT_FULL = 14,
+    GBKEEP_SAVE_FIRST = 15,
+    GBKEEP_BROKEN = 16,
+    GBKEEP_DEVICE_SIZE = 17,
+    GBKEEP_WRONG_LENGTH = 18,
+    GBKEEP_OUTPUT_FAILED = 19,
+    GBKEEP_NO_BATTERY = 20,
+    GBKEEP_BATTERY_LENGTH = 21,
+    GBKEEP_NO_TIME = 22
+};
+/* end made */
 
 /* The bytes of a picture: 144 rows of 160 pixels. */
 #define GBKEEP_PICTURE_LENGTH 23040
