@@ -25,13 +25,12 @@ use Rattle.streaming.specs.declared.error.StreamError.TheVariants.{Session, Line
 use Rattle.streaming.specs.declared.obeying.End.{End}
 use Rattle.streaming.specs.declared.obeying.End.TheVariants.{Whole, Wrong, Failed, Damaged, OtherCartridge, NoMemory}
 use Rattle.whole_lives.specs.Lives.{Files, Played, kept_of, taken_up_at}
-use Rattle.whole_lives.specs.Devices.{Memories, AreLeft, LeavesRound}
+use Rattle.whole_lives.specs.Devices.{Memories, AreLeft, LeavesRound, IsFailedCall}
 use Rattle.whole_lives.specs.declared.error.LifeError.TheVariants.{Stream}
 use Rattle.whole_lives.specs.Lines.{AskByLines}
-use Rattle.whole_lives.specs.Rounds.{IsFailedCall}
 use Rattle.whole_lives.proofs.Behind.{one_round_lived}
 use Rattle.whole_lives.proofs.LifeLaws.{behind_none}
-use Rattle.whole_lives.proofs.RoundLaws.{none_left, read_more, read_to, is_whole, told_by, counts, reads}
+use Rattle.whole_lives.proofs.RoundLaws.{done_by, none_left, read_more, read_to, is_whole, told_by, counts, reads}
 use Rattle.whole_lives.proofs.Telling.{more_at_most, none_at_most, stream_at_most}
 
 module _ (rom : List ℕ) (save now : MemoryState) (text : List ℕ) where
@@ -115,7 +114,7 @@ module _ (rom : List ℕ) (save now : MemoryState) (text : List ℕ) where
             (record {
               unread = read.rest;
               lines = told_by by.from deeds;
-              asked = record { lines = by.lines; deeds = deeds; begins = read.begins_so; asks = all_asked by.asks; inputs_are = refl; told_are = refl };
+              asked = record { lines = by.lines; deeds = deeds; begins = read.begins_so; asks = done_by whole true rom by.from.machine by.lines deeds by.kept by.asks; inputs_are = refl; told_are = refl };
               untold = [];
               told_are = sym (append-nil told);
               report_is = by.answered;

@@ -1,15 +1,14 @@
 -- A cut of a round, and one life behind another.
-use Rattle.std.proofs.Common.{◌≡◌, inl, inr, ⊎_elim, ℕ, suc, ◌+◌, ◌<◌, List, [], ◌∷◌, ◌++◌, length, take, map, get_or, Bool, true, false, Option, Some, None, refl, sym, ap, ◌∙◌, subst, arith}
+use Rattle.std.proofs.Common.{◌≡◌, ℕ, suc, ◌+◌, ◌<◌, List, [], ◌∷◌, ◌++◌, length, take, map, get_or, Bool, true, false, Option, Some, None, refl, sym, ap, ◌∙◌, subst, arith}
 use Rattle.std.proofs.Math.Seq.{take-suc}
 use Rattle.std.proofs.lemmas.List.{map-append}
 use Rattle.std.specs.Option.{option_map}
 use Rattle.machine.specs.Machine.{Input}
-use Rattle.sector_device.specs.DiskState.{next_count}
 use Rattle.sector_device.specs.Memory.{MemoryState, memory_disk}
 use Rattle.sector_device.specs.Records.{replayed, IsCutOf}
 use Rattle.sector_device.specs.declared.recorded.Recorded.{Recorded}
 use Rattle.whole_lives.specs.Lives.{Asking, Files, Played, IsRound, IsLife}
-use Rattle.whole_lives.specs.Devices.{Memories, AgreesWithEach, IsRecordedLeft, AreLeft, HasLived, LeavesLife, LeavesRound, CountsCut, AreRounds, IsCut, IsCutIfThere, IsCutRound, fused, with_fuses, texts_of, reports_of, wholes_of, faults_of}
+use Rattle.whole_lives.specs.Devices.{Memories, AgreesWithEach, IsRecordedLeft, AreLeft, HasLived, LeavesLife, LeavesRound, AreRounds, IsCut, IsCutIfThere, IsCutRound, Obeying, Refusing, fused, with_fuses, texts_of, reports_of, wholes_of}
 use Rattle.whole_lives.specs.declared.rounds.Round.{Round}
 use Rattle.whole_lives.specs.declared.rounds.RoundEnd.{RoundEnd}
 
@@ -65,10 +64,6 @@ module _ (round : Round) where
   agree_same rom save None agree = tt
   agree_same rom save (Some r) agree = agree
 
-  faults_same : (recording : Option MemoryState) → faults_of (option_map (fused round.recording_calls) recording) ≡ faults_of recording
-  faults_same None = refl
-  faults_same (Some r) = refl
-
   pub fused_leaves : (asks : Asking) (rom : List ℕ) (old now : Memories) (text report : List ℕ) (whole : Bool) → LeavesRound asks rom (with_fuses round old) now text report whole → LeavesRound asks rom old now text report whole
   fused_leaves asks rom old now text report whole leaves = record {
     agree = λ agree. leaves.agree (agree_same rom old.save old.recording agree);
@@ -86,10 +81,6 @@ module _ (round : Round) where
           life = lived.life;
         };
   }
-
-  pub fused_counts : (old : Memories) (whole : Bool) (now : Memories) → CountsCut whole (with_fuses round old) now → CountsCut whole old now
-  fused_counts old true now counts = (counts.0, counts.1 ∙ faults_same old.recording)
-  fused_counts old false now counts = ⊎_elim (λ one. inl (one.0, one.1 ∙ faults_same old.recording)) (λ one. inr (one.0, one.1 ∙ ap next_count (faults_same old.recording))) counts
 
 -- ---- a cut
 
@@ -114,14 +105,15 @@ module _ (rom : List ℕ) (save_kept recording_kept : List Bool) (save now_save 
   recorded_left (Some r) (Some now) None cut left = absurd left
   recorded_left (Some r) (Some now) (Some recorded) cut left = (left.0, cut_image recording_kept r now cut left.0 left.1, left.2)
 
-pub cut_leaves : (asks : Asking) (rom : List ℕ) (old : Memories) (round : Round) (now : Memories) (report : List ℕ) (whole : Bool) → IsCutRound asks rom old round now report whole → LeavesRound asks rom old now round.lines.items report whole
-cut_leaves asks rom old round now report whole cut =
+pub cut_leaves : (asks : Asking) (obeys : Obeying) (refuses : Refusing) (rom : List ℕ) (old : Memories) (round : Round) (now : Memories) (report : List ℕ) (whole : Bool) → IsCutRound asks obeys refuses rom old round now report whole → LeavesRound asks rom old now round.lines.items report whole
+cut_leaves asks obeys refuses rom old round now report whole cut =
     let played = cut.played in
+    let leaves = fused_leaves round asks rom old played round.lines.items report whole cut.is_played.leaves in
     record {
-      agree = λ agree. agree_left rom round.save_kept.items round.recording_kept.items played.save now.save cut.save played.recording now.recording cut.recording (cut.is_played.leaves.agree agree);
-      stand = λ stand image here. cut.is_played.leaves.stand stand image (cut_image round.save_kept.items played.save now.save cut.save image here);
+      agree = λ agree. agree_left rom round.save_kept.items round.recording_kept.items played.save now.save cut.save played.recording now.recording cut.recording (leaves.agree agree);
+      stand = λ stand image here. leaves.stand stand image (cut_image round.save_kept.items played.save now.save cut.save image here);
       lives = λ agree last here.
-          cut.is_played.leaves.lives agree last
+          leaves.lives agree last
           (record {
             image = here.image;
             stood = cut_image round.save_kept.items played.save now.save cut.save here.image here.stood;
@@ -132,25 +124,25 @@ cut_leaves asks rom old round now report whole cut =
 
 -- ---- rounds
 
-pub rounds_leave : (asks : Asking) (rom : List ℕ) (rounds : List Round) (first last : Memories) (reports : List (List ℕ)) (wholes : List Bool) → AreRounds asks rom rounds first last reports wholes → LeavesLife asks rom first last (texts_of rounds) reports wholes
-rounds_leave asks rom [] first last [] [] are = subst (λ (m : Memories). LeavesLife asks rom first m [] [] []) (sym are) (lived_nothing asks rom first)
-rounds_leave asks rom [] first last [] (whole ∷ wholes) are = absurd are
-rounds_leave asks rom [] first last (report ∷ reports) wholes are = absurd are
-rounds_leave asks rom (round ∷ rounds) first last [] wholes are = absurd are
-rounds_leave asks rom (round ∷ rounds) first last (report ∷ reports) [] are = absurd are
-rounds_leave asks rom (round ∷ rounds) first last (report ∷ reports) (whole ∷ wholes) are =
-    lived_both asks rom first are.0 last (round.lines.items ∷ []) (report ∷ []) (whole ∷ []) (texts_of rounds) reports wholes (cut_leaves asks rom first round are.0 report whole are.1)
-    (rounds_leave asks rom rounds are.0 last reports wholes are.2)
+pub rounds_leave : (asks : Asking) (obeys : Obeying) (refuses : Refusing) (rom : List ℕ) (rounds : List Round) (first last : Memories) (reports : List (List ℕ)) (wholes : List Bool) → AreRounds asks obeys refuses rom rounds first last reports wholes → LeavesLife asks rom first last (texts_of rounds) reports wholes
+rounds_leave asks obeys refuses rom [] first last [] [] are = subst (λ (m : Memories). LeavesLife asks rom first m [] [] []) (sym are) (lived_nothing asks rom first)
+rounds_leave asks obeys refuses rom [] first last [] (whole ∷ wholes) are = absurd are
+rounds_leave asks obeys refuses rom [] first last (report ∷ reports) wholes are = absurd are
+rounds_leave asks obeys refuses rom (round ∷ rounds) first last [] wholes are = absurd are
+rounds_leave asks obeys refuses rom (round ∷ rounds) first last (report ∷ reports) [] are = absurd are
+rounds_leave asks obeys refuses rom (round ∷ rounds) first last (report ∷ reports) (whole ∷ wholes) are =
+    lived_both asks rom first are.0 last (round.lines.items ∷ []) (report ∷ []) (whole ∷ []) (texts_of rounds) reports wholes (cut_leaves asks obeys refuses rom first round are.0 report whole are.1)
+    (rounds_leave asks obeys refuses rom rounds are.0 last reports wholes are.2)
 
-pub rounds_more : (asks : Asking) (rom : List ℕ) (rounds : List Round) (first now next : Memories) (reports : List (List ℕ)) (wholes : List Bool) (round : Round) (report : List ℕ) (whole : Bool) → AreRounds asks rom rounds first now reports wholes
-    → IsCutRound asks rom now round next report whole → AreRounds asks rom (rounds ++ round ∷ []) first next (reports ++ report ∷ []) (wholes ++ whole ∷ [])
-rounds_more asks rom [] first now next [] [] round report whole are cut = (next, subst (λ (m : Memories). IsCutRound asks rom m round next report whole) are cut, refl)
-rounds_more asks rom [] first now next [] (w ∷ wholes) round report whole are cut = absurd are
-rounds_more asks rom [] first now next (r ∷ reports) wholes round report whole are cut = absurd are
-rounds_more asks rom (o ∷ rounds) first now next [] wholes round report whole are cut = absurd are
-rounds_more asks rom (o ∷ rounds) first now next (r ∷ reports) [] round report whole are cut = absurd are
-rounds_more asks rom (o ∷ rounds) first now next (r ∷ reports) (w ∷ wholes) round report whole are cut =
-    (are.0, are.1, rounds_more asks rom rounds are.0 now next reports wholes round report whole are.2 cut)
+pub rounds_more : (asks : Asking) (obeys : Obeying) (refuses : Refusing) (rom : List ℕ) (rounds : List Round) (first now next : Memories) (reports : List (List ℕ)) (wholes : List Bool) (round : Round) (report : List ℕ) (whole : Bool) → AreRounds asks obeys refuses rom rounds first now reports wholes
+    → IsCutRound asks obeys refuses rom now round next report whole → AreRounds asks obeys refuses rom (rounds ++ round ∷ []) first next (reports ++ report ∷ []) (wholes ++ whole ∷ [])
+rounds_more asks obeys refuses rom [] first now next [] [] round report whole are cut = (next, subst (λ (m : Memories). IsCutRound asks obeys refuses rom m round next report whole) are cut, refl)
+rounds_more asks obeys refuses rom [] first now next [] (w ∷ wholes) round report whole are cut = absurd are
+rounds_more asks obeys refuses rom [] first now next (r ∷ reports) wholes round report whole are cut = absurd are
+rounds_more asks obeys refuses rom (o ∷ rounds) first now next [] wholes round report whole are cut = absurd are
+rounds_more asks obeys refuses rom (o ∷ rounds) first now next (r ∷ reports) [] round report whole are cut = absurd are
+rounds_more asks obeys refuses rom (o ∷ rounds) first now next (r ∷ reports) (w ∷ wholes) round report whole are cut =
+    (are.0, are.1, rounds_more asks obeys refuses rom rounds are.0 now next reports wholes round report whole are.2 cut)
 
 -- what holds of the reports and the ends with one more holds of those with one end more
 pub ends_more : (P : List (List ℕ) → List Bool → Type 0) (ends : List RoundEnd) (end : RoundEnd) → P (reports_of ends ++ end.report.items ∷ []) (wholes_of ends ++ end.whole ∷ []) → P (reports_of (ends ++ end ∷ [])) (wholes_of (ends ++ end ∷ []))

@@ -125,10 +125,10 @@ module _ (rom : List ℕ) (save : MemoryState) (position : Position) (is : stand
   cause_sound (Record (WrongRecorded n)) recording left left_recording text unread report cause = tt
   cause_sound (Record FailedRecorded) recording left left_recording text unread report cause = tt
 
-pub play_sound : (rom : List ℕ) (now left : Memories) (text : List ℕ) (why : LifeError) → EachStands rom now → RefuseLines rom now left text why → IsSound why
-play_sound rom now left text why stand refused =
+pub play_sound : (rom : List ℕ) (now left : Memories) (text report : List ℕ) (why : LifeError) → EachStands rom now → RefuseLines rom now left text report why → IsSound why
+play_sound rom now left text report why stand refused =
     let stood = stand (memory_disk now.save).sectors (reads now.save) in
-    cause_sound rom now.save stood.0 stood.1 why now.recording left.save left.recording text refused.unread refused.report refused.cause
+    cause_sound rom now.save stood.0 stood.1 why now.recording left.save left.recording text refused.unread report refused.cause
 
 -- ---- how many calls had failed
 

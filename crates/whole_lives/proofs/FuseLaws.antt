@@ -1,8 +1,8 @@
 -- A round that a fuse ended was played up to there.
 use Rattle.std.proofs.Common.{inl, inr, ℕ, List, false, subst}
 use Rattle.whole_lives.specs.Lives.{Asking}
-use Rattle.whole_lives.specs.Devices.{Memories, CountsRefusal, CountsCut, LeavesRound, Refusing, IsPlayed, IsBlown}
-use Rattle.whole_lives.specs.Rounds.{StopsGiving, IsByFuse, IsFailedCall}
+use Rattle.whole_lives.specs.Devices.{Memories, CountsRefusal, CountsCut, LeavesRound, Obeying, Refusing, IsFailedCall, IsPlayed, IsBlown}
+use Rattle.whole_lives.specs.Rounds.{StopsGiving, IsByFuse}
 use Rattle.whole_lives.specs.declared.error.LifeError.{LifeError}
 
 pub by_fuse_counts : (old left : Memories) (why : LifeError) → IsByFuse why left → CountsRefusal why old left → CountsCut false old left
@@ -20,10 +20,11 @@ by_fuse_blown left why (inl (is, blown)) = inl blown
 by_fuse_blown left why (inr (inl (is, blown))) = inl blown
 by_fuse_blown left why (inr (inr (is, blown))) = inr blown
 
-pub ended_by_fuse : {asks : Asking} {refuses : Refusing} {rom : List ℕ} {old left : Memories} {text report : List ℕ} {why : LifeError}
-    → StopsGiving asks refuses rom old left text report why → IsByFuse why left → IsPlayed asks rom old left text report false
-ended_by_fuse {asks} {refuses} {rom} {old} {left} {text} {report} {why} stops by_fuse = record {
+pub ended_by_fuse : {asks : Asking} {obeys : Obeying} {refuses : Refusing} {rom : List ℕ} {old left : Memories} {text report : List ℕ} {why : LifeError}
+    → StopsGiving asks refuses rom old left text report why → IsByFuse why left → IsPlayed asks obeys refuses rom old left text report false
+ended_by_fuse {asks} {obeys} {refuses} {rom} {old} {left} {text} {report} {why} stops by_fuse = record {
   leaves = subst (λ (front : List ℕ). LeavesRound asks rom old left text front false) (stops.whole (by_fuse_failed left why by_fuse)) stops.leaves;
+  said = (why, by_fuse_failed left why by_fuse, stops.refused.cause);
   counts = by_fuse_counts old left why by_fuse stops.refused.counted;
   blown = λ whole. by_fuse_blown left why by_fuse;
 }

@@ -20,7 +20,7 @@ use Rattle.playing.specs.Report.{IsPart}
 use Rattle.playing.specs.Lines.{Line, resumed_line, texts}
 use Rattle.input_lines.specs.Given.{IsWhole as IsWholeLine}
 use Rattle.streaming.specs.Orders.{asked}
-use Rattle.streaming.specs.Reading.{AsksUpTo}
+use Rattle.streaming.specs.Reading.{Asks, AsksUpTo}
 use Rattle.streaming.specs.Reading.Asks.{no_line}
 use Rattle.streaming.specs.Reading.AsksUpTo.{all_asked}
 use Rattle.streaming.specs.Answers.{inputs_of_deeds, stream_lines}
@@ -34,13 +34,12 @@ use Rattle.recorded_play.specs.declared.error.RecordError.TheVariants.{Session, 
 use Rattle.recorded_play.proofs.Stepping.{entries_of}
 use Rattle.recorded_play.proofs.TakenUp.{recorded_leads}
 use Rattle.whole_lives.specs.Lives.{Files, IsRecorded, Played, Follows, kept_of, end_of, taken_up_at}
-use Rattle.whole_lives.specs.Devices.{Memories, AreLeft, HasLived, LeavesRound}
+use Rattle.whole_lives.specs.Devices.{Memories, AreLeft, HasLived, LeavesRound, IsFailedCall}
 use Rattle.whole_lives.specs.declared.error.LifeError.TheVariants.{Record}
 use Rattle.whole_lives.specs.Lines.{AskByLines}
-use Rattle.whole_lives.specs.Rounds.{IsFailedCall}
 use Rattle.whole_lives.proofs.Behind.{one_round_lived}
 use Rattle.whole_lives.proofs.LifeLaws.{agree_more, two_parts}
-use Rattle.whole_lives.proofs.RoundLaws.{some_left, read_more, read_to, is_whole, told_by, counts, reads}
+use Rattle.whole_lives.proofs.RoundLaws.{done_by, some_left, read_more, read_to, is_whole, told_by, counts, reads}
 use Rattle.whole_lives.proofs.Telling.{more_at_most, none_at_most, stream_at_most}
 
 -- ---- lists of inputs
@@ -214,7 +213,7 @@ module _ (rom : List ℕ) (save recording now_save now_recording : MemoryState) 
                 lines = by.lines;
                 deeds = deeds;
                 begins = read.begins_so;
-                asks = subst (λ (m : MachineState). AsksUpTo false rom m by.lines by.deeds) (ap (λ (p : Position). p.machine) from_is) (all_asked by.asks);
+                asks = done_by whole false rom (end_of rom taken.played).machine by.lines by.deeds by.kept (subst (λ (m : MachineState). Asks false rom m by.lines by.deeds by.kept) (ap (λ (p : Position). p.machine) from_is) by.asks);
                 inputs_are = refl;
                 told_are = refl;
               };

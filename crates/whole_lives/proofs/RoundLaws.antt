@@ -1,6 +1,6 @@
 -- What a round is made of: what images hold, the lines that were read, and the moments of its devices.
 use Rattle.std.proofs.Common.{◌≡◌, inl, inr, ℕ, ◌≤◌, List, [], ◌++◌, Bool, true, false, Option, Some, None, refl, sym, ap, ◌∙◌, subst, append-nil, append_assoc}
-use Rattle.machine.specs.Machine.{Input}
+use Rattle.machine.specs.Machine.{Input, MachineState}
 use Rattle.sector_device.specs.Memory.{MemoryState, memory_disk}
 use Rattle.sector_device.specs.RecordLaws.{counts_last, reads_image}
 use Rattle.input_lines.specs.Given.{Given, texts_of, HasReadGiven, IsCutOff}
@@ -9,12 +9,13 @@ use Rattle.session.specs.Stands.{Position}
 use Rattle.playing.specs.Lines.{Line}
 use Rattle.streaming.specs.Answers.{ended, lines_of_deeds}
 use Rattle.streaming.specs.Orders.{Deed, asked}
-use Rattle.streaming.specs.Reading.{ReadsTo}
+use Rattle.streaming.specs.Reading.{Asks, ReadsTo}
+use Rattle.streaming.specs.Reading.AsksUpTo.{all_asked}
 use Rattle.streaming.proofs.Wholes.{reads_some}
 use Rattle.streaming.specs.declared.obeying.End.{End}
 use Rattle.streaming.specs.declared.obeying.End.TheVariants.{Whole, Wrong, Failed, Damaged, OtherCartridge, NoMemory}
 use Rattle.replaying.specs.Agreeing.{recorded_inputs}
-use Rattle.whole_lives.specs.Lines.{Begins}
+use Rattle.whole_lives.specs.Lines.{AreDone, Begins}
 use Rattle.whole_lives.specs.Devices.{IsRecordedLeft}
 
 -- ---- what images hold
@@ -79,6 +80,11 @@ module _ (states : Bool) where
 -- those behind the first
 abbrev pub told_by : Position → List Deed → List Line
 told_by from deeds = lines_of_deeds from.machine from.count 0 (ended 0 deeds)
+
+-- all of them, where an end is whole
+pub done_by : (whole states : Bool) (rom : List ℕ) (start : MachineState) (lines : List Given) (deeds : List Deed) (kept : List KeptMachine) → Asks states rom start lines deeds kept → AreDone whole states rom start lines deeds
+done_by true states rom start lines deeds kept asks = (kept, asks)
+done_by false states rom start lines deeds kept asks = all_asked asks
 
 -- ---- moments
 

@@ -172,11 +172,36 @@ is_blown (Some recording) = recording.blown
 abbrev pub IsBlown : Memories → Type 0
 IsBlown left = (left.save.blown ≡ true) ⊎ (is_blown left.recording ≡ true)
 
+-- What a player says of a text that it obeyed to its end, and of one that it refused, with what the devices were and are, and all that it
+-- told: each player says of its own what these are.
+abbrev pub Obeying : Type 1
+Obeying = (rom : List ℕ) → (old now : Memories) → (text report : List ℕ) → Type 0
+
+abbrev pub Refusing : Type 1
+Refusing = (rom : List ℕ) → (old left : Memories) → (text report : List ℕ) → LifeError → Type 0
+
+-- a call failed
+abbrev pub IsFailedCall : LifeError → Type 0
+IsFailedCall why = (why ≡ Stream (OfStream Device)) ⊎ (why ≡ Record (OfRecord Device)) ⊎ (why ≡ Record (OfRecording RecordingDevice))
+
+-- the player says so of this text, on these devices: it obeyed all of it, or a call failed
+abbrev pub IsSaid : (obeys : Obeying) → (refuses : Refusing) → (rom : List ℕ) → (old now : Memories) → (text report : List ℕ) → (whole : Bool) → Type 0
+IsSaid obeys refuses rom old now text report true = obeys rom old now text report
+IsSaid obeys refuses rom old now text report false = (why : LifeError) × IsFailedCall why × refuses rom old now text report why
+
 -- a round was played to its end, or to where a fuse failed a call
-pub record IsPlayed (asks : Asking) (rom : List ℕ) (old now : Memories) (text report : List ℕ) (whole : Bool) : Type 0 where
+pub record IsPlayed (asks : Asking) (obeys : Obeying) (refuses : Refusing) (rom : List ℕ) (old now : Memories) (text report : List ℕ) (whole : Bool) : Type 0 where
   pub leaves : LeavesRound asks rom old now text report whole
+  pub said : IsSaid obeys refuses rom old now text report whole
   pub counts : CountsCut whole old now
   pub blown : whole ≡ false → IsBlown now
+
+-- a device whose fuse was set, and those of which a round sets them
+abbrev pub fused : (calls : ℕ) → MemoryState → MemoryState
+fused calls m = record m { fuse = Some calls; blown = false }
+
+abbrev pub with_fuses : Round → Memories → Memories
+with_fuses round now = record { save = fused round.save_calls now.save; recording = option_map (fused round.recording_calls) now.recording }
 
 -- a device as a cut leaves it: the sectors that were synced, with the chosen later writes
 pub record IsCut (kept : List Bool) (old now : MemoryState) : Type 0 where
@@ -189,34 +214,31 @@ IsCutIfThere kept None None = ⊤
 IsCutIfThere kept (Some old) (Some now) = IsCut kept old now
 IsCutIfThere kept old now = ⊥
 
--- the cut kept the chosen writes of what the round's calls led to, and no other
-pub record IsCutRound (asks : Asking) (rom : List ℕ) (old : Memories) (round : Round) (now : Memories) (report : List ℕ) (whole : Bool) : Type 0 where
+-- The round was played on devices with exactly its fuses; the cut kept the chosen writes of what its calls led to, and no other.
+pub record IsCutRound (asks : Asking) (obeys : Obeying) (refuses : Refusing) (rom : List ℕ) (old : Memories) (round : Round) (now : Memories) (report : List ℕ) (whole : Bool) : Type 0 where
   pub played : Memories
-  pub is_played : IsPlayed asks rom old played round.lines.items report whole
+  pub is_played : IsPlayed asks obeys refuses rom (with_fuses round old) played round.lines.items report whole
   pub save : IsCut round.save_kept.items played.save now.save
   pub recording : IsCutIfThere round.recording_kept.items played.recording now.recording
 
 -- each round was played on what the cut of the one before it left
-abbrev pub AreRounds : (asks : Asking) → (rom : List ℕ) → List Round → (first last : Memories) → (reports : List (List ℕ)) → (wholes : List Bool) → Type 0
-AreRounds asks rom [] first last [] [] = last ≡ first
-AreRounds asks rom (round ∷ rounds) first last (report ∷ reports) (whole ∷ wholes) =
-    (next : Memories) × IsCutRound asks rom first round next report whole × AreRounds asks rom rounds next last reports wholes
-AreRounds asks rom rounds first last reports wholes = ⊥
+abbrev pub AreRounds : (asks : Asking) → (obeys : Obeying) → (refuses : Refusing) → (rom : List ℕ) → List Round → (first last : Memories) → (reports : List (List ℕ)) → (wholes : List Bool) → Type 0
+AreRounds asks obeys refuses rom [] first last [] [] = last ≡ first
+AreRounds asks obeys refuses rom (round ∷ rounds) first last (report ∷ reports) (whole ∷ wholes) =
+    (next : Memories) × IsCutRound asks obeys refuses rom first round next report whole × AreRounds asks obeys refuses rom rounds next last reports wholes
+AreRounds asks obeys refuses rom rounds first last reports wholes = ⊥
 
--- and the game was taken up from what the last of them left
-pub record EndsRounds (asks : Asking) (rom : List ℕ) (first : Memories) (rounds : List Round) (reports : List (List ℕ)) (wholes : List Bool) (report : List ℕ) (last : Memories) : Type 0 where
+-- and the game was taken up from what the last of them left, with no fuse
+pub record EndsRounds (asks : Asking) (obeys : Obeying) (refuses : Refusing) (rom : List ℕ) (first : Memories) (rounds : List Round) (reports : List (List ℕ)) (wholes : List Bool) (report : List ℕ) (last : Memories) : Type 0 where
   pub left : Memories
-  pub rounds_are : AreRounds asks rom rounds first left reports wholes
-  pub taken_up : IsPlayed asks rom left last [] report true
+  pub rounds_are : AreRounds asks obeys refuses rom rounds first left reports wholes
+  pub taken_up : IsPlayed asks obeys refuses rom left last [] report true
 
 -- ---- a refusal
 
--- Why a text is refused, with what the devices were and are: each player says of its own what these are.
-abbrev pub Refusing : Type 1
-Refusing = (rom : List ℕ) → (old left : Memories) → (text : List ℕ) → LifeError → Type 0
-
-pub record RefusesPlay (refuses : Refusing) (rom : List ℕ) (old left : Memories) (text : List ℕ) (why : LifeError) : Type 0 where
-  pub cause : refuses rom old left text why
+-- the player refused a text behind this report
+pub record RefusesPlay (refuses : Refusing) (rom : List ℕ) (old left : Memories) (text report : List ℕ) (why : LifeError) : Type 0 where
+  pub cause : refuses rom old left text report why
   pub counted : CountsRefusal why old left
 
 -- by no fuse
@@ -226,36 +248,31 @@ pub record IsByNoFuse (why : LifeError) (left : Memories) : Type 0 where
   pub recording_call : why ≡ Record (OfRecording RecordingDevice) → is_blown left.recording ≡ false
 
 -- the round was played, and there was no memory for what its cut leaves
-pub record RefusesCut (asks : Asking) (rom : List ℕ) (old left : Memories) (text : List ℕ) (why : LifeError) : Type 0 where
+pub record RefusesCut (asks : Asking) (obeys : Obeying) (refuses : Refusing) (rom : List ℕ) (old left : Memories) (text : List ℕ) (why : LifeError) : Type 0 where
   pub why_is : why ≡ Memory
   pub report : List ℕ
   pub whole : Bool
-  pub is_played : IsPlayed asks rom old left text report whole
-
--- a device whose fuse was set, and those of which a round sets them
-abbrev pub fused : (calls : ℕ) → MemoryState → MemoryState
-fused calls m = record m { fuse = Some calls; blown = false }
-
-abbrev pub with_fuses : Round → Memories → Memories
-with_fuses round now = record { save = fused round.save_calls now.save; recording = option_map (fused round.recording_calls) now.recording }
+  pub is_played : IsPlayed asks obeys refuses rom old left text report whole
 
 -- a round was refused on these devices
-abbrev pub RefusesRound : (asks : Asking) → (refuses : Refusing) → (rom : List ℕ) → (old left : Memories) → Round → LifeError → Type 0
-RefusesRound asks refuses rom old left round why =
-    (RefusesPlay refuses rom (with_fuses round old) left round.lines.items why × IsByNoFuse why left) ⊎ RefusesCut asks rom old left round.lines.items why
+abbrev pub RefusesRound : (asks : Asking) → (obeys : Obeying) → (refuses : Refusing) → (rom : List ℕ) → (old left : Memories) → Round → LifeError → Type 0
+RefusesRound asks obeys refuses rom old left round why =
+    ((report : List ℕ) × RefusesPlay refuses rom (with_fuses round old) left round.lines.items report why × IsByNoFuse why left)
+    ⊎ RefusesCut asks obeys refuses rom (with_fuses round old) left round.lines.items why
 
 -- The first so many rounds led to these devices, and then the next was refused, or where there is none, the game was not taken up.
-pub record IsRefusedBehind (asks : Asking) (refuses : Refusing) (rom : List ℕ) (first left : Memories) (rounds : List Round) (why : LifeError) : Type 0 where
+pub record IsRefusedBehind (asks : Asking) (obeys : Obeying) (refuses : Refusing) (rom : List ℕ) (first left : Memories) (rounds : List Round) (why : LifeError) : Type 0 where
   pub done : ℕ
   pub now : Memories
   pub reports : List (List ℕ)
   pub wholes : List Bool
-  pub come : AreRounds asks rom (take done rounds) first now reports wholes
-  pub refused : ((round : Round) × (slice_get rounds done ≡ Some round) × RefusesRound asks refuses rom now left round why) ⊎ ((done ≡ length rounds) × RefusesPlay refuses rom now left [] why)
+  pub come : AreRounds asks obeys refuses rom (take done rounds) first now reports wholes
+  pub refused : ((round : Round) × (slice_get rounds done ≡ Some round) × RefusesRound asks obeys refuses rom now left round why)
+      ⊎ ((done ≡ length rounds) × ((report : List ℕ) × RefusesPlay refuses rom now left [] report why))
 
 -- so it was, or there was no memory for the ends
-abbrev pub IsLifeRefusal : (asks : Asking) → (refuses : Refusing) → (rom : List ℕ) → (first left : Memories) → List Round → LifeError → Type 0
-IsLifeRefusal asks refuses rom first left rounds why = ((why ≡ Memory) × (left ≡ first)) ⊎ IsRefusedBehind asks refuses rom first left rounds why
+abbrev pub IsLifeRefusal : (asks : Asking) → (obeys : Obeying) → (refuses : Refusing) → (rom : List ℕ) → (first left : Memories) → List Round → LifeError → Type 0
+IsLifeRefusal asks obeys refuses rom first left rounds why = ((why ≡ Memory) × (left ≡ first)) ⊎ IsRefusedBehind asks obeys refuses rom first left rounds why
 
 -- A SAVE of which each image stands for a position is not refused for what is found on it. The report lies in memory: where there is none
 -- for it, the output fails.

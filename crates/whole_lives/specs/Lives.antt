@@ -40,9 +40,9 @@ Agree rom files = AgreesWith rom files.save files.recorded
 -- ---- a round
 
 -- What a text asks for of a game that goes on at a position, where so much of it is left unread: its inputs, and the lines that are told
--- of them. A life is one whatever this is; each player says what it is of its own.
+-- of them; of a round that is whole, all was done. A life is one whatever this is; each player says what it is of its own.
 abbrev pub Asking : Type 1
-Asking = (states : Bool) → (rom : List ℕ) → (from : Position) → (text unread : List ℕ) → List Input → List Line → Type 0
+Asking = (whole states : Bool) → (rom : List ℕ) → (from : Position) → (text unread : List ℕ) → List Input → List Line → Type 0
 
 -- what was played in a round
 pub record Played : Type 0 where
@@ -83,7 +83,7 @@ pub record IsWhole (rom : List ℕ) (round : Played) (unread : List ℕ) (untold
 pub record IsRound (asks : Asking) (rom : List ℕ) (round : Played) (first last : Files) : Type 0 where
   pub unread : List ℕ
   pub lines : List Line
-  pub asked : asks (takes_states first) rom (position rom first) round.text unread round.inputs lines
+  pub asked : asks round.whole (takes_states first) rom (position rom first) round.text unread round.inputs lines
   -- it told the first of the line of where it goes on, and of these lines
   pub untold : List Line
   pub told_are : resumed_line (position rom first).count ∷ lines ≡ round.told ++ untold

@@ -2,7 +2,7 @@
 ghost use Rattle.std.specs.Prelude.{◌≡◌, Some, None, IfOk, IfErr};
 ghost use Rattle.sector_device.specs.MemoryDevice.{memory};
 ghost use Rattle.whole_lives.specs.Devices.{EachStands, IsSound, IsTakenUp, memories, memories_of, position_of};
-ghost use Rattle.whole_lives.specs.Lines.{AskByLines, RefuseLines};
+ghost use Rattle.whole_lives.specs.Lines.{AskByLines, ObeyLines, RefuseLines};
 ghost use Rattle.whole_lives.specs.Rounds.{GivesWhole, StopsGiving};
 
 use crate::devices::Devices;
@@ -24,7 +24,7 @@ fn give_alone(
     lines: &[u8],
 ) -> Result<Given, Stopped>
     ensures gives { IfOk result (λ given.
-        GivesWhole AskByLines cartridge.now (record { save = memory save; recording = None }) (memories_of given.game) lines.now
+        GivesWhole AskByLines ObeyLines cartridge.now (record { save = memory save; recording = None }) (memories_of given.game) lines.now
         given.report.items (position_of given.game)) }
     ensures begun { IfOk result (λ given. IsTakenUp cartridge.now given.game) }
     ensures stops { IfErr result (λ stopped.
@@ -65,7 +65,7 @@ fn give_recorded(
     lines: &[u8],
 ) -> Result<Given, Stopped>
     ensures gives { IfOk result (λ given.
-        GivesWhole AskByLines cartridge.now (record { save = memory save; recording = Some (memory recording) })
+        GivesWhole AskByLines ObeyLines cartridge.now (record { save = memory save; recording = Some (memory recording) })
         (memories_of given.game) lines.now given.report.items (position_of given.game)) }
     ensures begun { IfOk result (λ given. IsTakenUp cartridge.now given.game) }
     ensures stops { IfErr result (λ stopped.
@@ -103,6 +103,8 @@ pub struct Lines;
 
 impl Player for Lines {
     ghost asks = { AskByLines };
+
+    ghost obeys = { ObeyLines };
 
     ghost refuses = { RefuseLines };
 

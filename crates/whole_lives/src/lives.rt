@@ -28,12 +28,12 @@ fn live_rounds<P: Player>(
     rounds: &[Round],
 ) -> Result<(Devices, Vec<RoundEnd>), LifeRefused>
     ensures rounds { IfOk result (λ r.
-        AreRounds P.asks cartridge.now rounds.now (memories devices) (memories r.0) (reports_of r.1.items)
+        AreRounds P.asks P.obeys P.refuses cartridge.now rounds.now (memories devices) (memories r.0) (reports_of r.1.items)
         (wholes_of r.1.items)) }
     ensures left { IfErr result (λ refused.
         LeavesSomeLife P.asks cartridge.now (memories devices) (memories refused.devices) rounds.now) }
     ensures refused { IfErr result (λ refused.
-        IsLifeRefusal P.asks P.refuses cartridge.now (memories devices) (memories refused.devices) rounds.now refused.why) }
+        IsLifeRefusal P.asks P.obeys P.refuses cartridge.now (memories devices) (memories refused.devices) rounds.now refused.why) }
     ensures sound { IfErr result (λ refused. EachStands cartridge.now (memories devices) → IsSound refused.why) }
 {
     let Ok(mut ends) = Vec::with_capacity(alloc, rounds.len()) else {
@@ -74,16 +74,17 @@ pub fn live<P: Player>(
         (reports_of lived.ends.items ++ lived.report.items ∷ [])
         (wholes_of lived.ends.items ++ true ∷ []) (position_of lived.game)) }
     ensures begun { IfOk result (λ lived. IsTakenUp cartridge.now lived.game) }
-    // a round was cut only where a call failed and a fuse is blown, and its cut kept the chosen writes
+    // each round was played with exactly its fuses, its report is all that the player told, it was cut only where a call failed and a fuse is
+    // blown, and its cut kept the chosen writes
     ensures rounds { IfOk result (λ lived.
-        EndsRounds P.asks cartridge.now (memories devices) rounds.now (reports_of lived.ends.items)
+        EndsRounds P.asks P.obeys P.refuses cartridge.now (memories devices) rounds.now (reports_of lived.ends.items)
         (wholes_of lived.ends.items) lived.report.items (memories_of lived.game)) }
 
     // when it is refused, and what then is left
     ensures left { IfErr result (λ refused.
         LeavesSomeLife P.asks cartridge.now (memories devices) (memories refused.devices) rounds.now) }
     ensures refused { IfErr result (λ refused.
-        IsLifeRefusal P.asks P.refuses cartridge.now (memories devices) (memories refused.devices) rounds.now refused.why) }
+        IsLifeRefusal P.asks P.obeys P.refuses cartridge.now (memories devices) (memories refused.devices) rounds.now refused.why) }
     ensures sound { IfErr result (λ refused. EachStands cartridge.now (memories devices) → IsSound refused.why) }
 {
     let (left, ends) = match live_rounds::<P>(alloc, devices, cartridge, rounds) {

@@ -1,7 +1,7 @@
 //! What takes a game up from its devices and plays it.
 ghost use Rattle.std.specs.Prelude.{◌≡◌, IfOk, IfErr};
 ghost use Rattle.whole_lives.specs.Lives.{Asking};
-ghost use Rattle.whole_lives.specs.Devices.{EachStands, IsSound, IsTakenUp, Refusing, memories, memories_of, position_of};
+ghost use Rattle.whole_lives.specs.Devices.{EachStands, IsSound, IsTakenUp, Obeying, Refusing, memories, memories_of, position_of};
 ghost use Rattle.whole_lives.specs.Rounds.{GivesWhole, StopsGiving};
 
 use crate::devices::Devices;
@@ -54,7 +54,10 @@ pub trait Player {
     /// What a text asks for of a game that goes on at a position, and what is told of it.
     ghost asks: { Asking };
 
-    /// Why a text is refused.
+    /// What it says of a text that it obeyed to its end: what the devices were and are, and its report.
+    ghost obeys: { Obeying };
+
+    /// Why a text is refused, and its report up to there.
     ghost refuses: { Refusing };
 
     /// Takes the game up and obeys the text to its end.
@@ -65,7 +68,7 @@ pub trait Player {
         text: &[u8],
     ) -> Result<Given, Stopped>
         ensures gives { IfOk result (λ given.
-            GivesWhole asks cartridge.now (memories devices) (memories_of given.game) text.now given.report.items
+            GivesWhole asks obeys cartridge.now (memories devices) (memories_of given.game) text.now given.report.items
             (position_of given.game)) }
         ensures begun { IfOk result (λ given. IsTakenUp cartridge.now given.game) }
         ensures stops { IfErr result (λ stopped.

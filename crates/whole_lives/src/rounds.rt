@@ -70,9 +70,9 @@ fn play_until_cut<P: Player>(
     lines: &[u8],
 ) -> Result<(Devices, RoundEnd), LifeRefused>
     ensures played { IfOk result (λ r.
-        IsPlayed P.asks cartridge.now (memories devices) (memories r.0) lines.now r.1.report.items r.1.whole) }
-    ensures refused { IfErr result (λ refused.
-        RefusesPlay P.refuses cartridge.now (memories devices) (memories refused.devices) lines.now refused.why) }
+        IsPlayed P.asks P.obeys P.refuses cartridge.now (memories devices) (memories r.0) lines.now r.1.report.items r.1.whole) }
+    ensures refused { IfErr result (λ refused. (report : List ℕ) ×
+        RefusesPlay P.refuses cartridge.now (memories devices) (memories refused.devices) lines.now report refused.why) }
     ensures fuse { IfErr result (λ refused. IsByNoFuse refused.why (memories refused.devices)) }
     ensures stopped { IfErr result (λ refused. (front : List ℕ) ×
         LeavesRound P.asks cartridge.now (memories devices) (memories refused.devices) lines.now front false) }
@@ -107,9 +107,9 @@ pub(crate) fn one_round<P: Player>(
     round: &Round,
 ) -> Result<(Devices, RoundEnd), LifeRefused>
     ensures cut { IfOk result (λ r.
-        IsCutRound P.asks cartridge.now (memories devices) round.now (memories r.0) r.1.report.items r.1.whole) }
+        IsCutRound P.asks P.obeys P.refuses cartridge.now (memories devices) round.now (memories r.0) r.1.report.items r.1.whole) }
     ensures refused { IfErr result (λ refused.
-        RefusesRound P.asks P.refuses cartridge.now (memories devices) (memories refused.devices) round.now refused.why) }
+        RefusesRound P.asks P.obeys P.refuses cartridge.now (memories devices) (memories refused.devices) round.now refused.why) }
     ensures stopped { IfErr result (λ refused. (report : List ℕ) × (whole : Bool) ×
         LeavesRound P.asks cartridge.now (memories devices) (memories refused.devices) (round.now).lines.items report whole) }
     ensures sound { IfErr result (λ refused. EachStands cartridge.now (memories devices) → IsSound refused.why) }

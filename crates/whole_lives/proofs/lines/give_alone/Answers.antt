@@ -2,7 +2,8 @@ use Rattle.std.proofs.Common.{◌≡◌, Some, None, true, List, ℕ, [], sym, s
 use Rattle.sector_device.specs.Memory.{memory_disk}
 use Rattle.sector_device.specs.MemoryDevice.{memory}
 use Rattle.session.specs.Accessors.{device_of, machine_of, acknowledged_of}
-use Rattle.streaming.specs.Streamed.{HasStreamedAll, IsStreamCause}
+use Rattle.streaming.specs.Streamed.{HasStreamed, HasStreamedAll, IsStreamCause}
+use Rattle.streaming.specs.declared.obeying.End.TheVariants.{Whole}
 use Rattle.whole_lives.specs.Lines.{AskByLines}
 use Rattle.whole_lives.specs.Devices.{LeavesRound}
 use Rattle.whole_lives.specs.declared.error.LifeError.TheVariants.{Stream}
@@ -26,6 +27,7 @@ returns-in-Ok-clause-gives c =
     (subst (λ (none : List ℕ). HasStreamedAll rom (memory_disk save) (memory_disk now) (acknowledged_of session) (machine_of session) (Some c.new-input.result.reader.now) (Some unread) (Some none) (Some report)) none_is c.in-Ok.ensures.streamed) in
     record {
       leaves = subst (λ (told : List ℕ). LeavesRound AskByLines rom (record { save = save; recording = None }) (record { save = now; recording = None }) c.args.lines.now told true) (sym report_is) (whole_in rom save now c.args.lines.now unread report by.streamed);
+      said = record { unread = unread; all = subst (λ (told : List ℕ). HasStreamed rom (memory_disk save) (memory_disk now) Whole (Some c.args.lines.now) (Some unread) (Some []) (Some told)) (sym report_is) by.streamed };
       counts = (c.in-Ok.ensures.answered.faults_ok, refl);
       ends = λ agree. (_, ends_at rom save now c.args.lines.now (acknowledged_of session) (machine_of session) unread report by, refl);
     }
@@ -49,10 +51,10 @@ returns-in-Err-clause-stops c =
       front = part.front;
       leaves = part.leaves;
       whole = λ failed. part.whole (failed_alone refused.why failed) ∙ sym report_is;
-      refused = record { cause = record { unread = unread; report = report; cause = by }; counted = stream_counted save left refused.why c.in-Err.ensures.answered.faults };
+      refused = record { cause = record { unread = unread; cause = subst (λ (told : List ℕ). IsStreamCause refused.why rom (memory_disk save) (memory_disk left) (Some c.args.lines.now) (Some unread) (Some []) (Some told)) (sym report_is) by }; counted = stream_counted save left refused.why c.in-Err.ensures.answered.faults };
     }
 
 pub returns-in-Err-clause-sound : goal.returns-in-Err-clause-sound
 returns-in-Err-clause-sound c = λ stand.
-    play_sound c.args.cartridge.now (record { save = memory c.args.save; recording = None }) (record { save = memory c.in-Err.refused.device; recording = None }) c.args.lines.now (Stream c.in-Err.refused.why) stand
+    play_sound c.args.cartridge.now (record { save = memory c.args.save; recording = None }) (record { save = memory c.in-Err.refused.device; recording = None }) c.args.lines.now _ (Stream c.in-Err.refused.why) stand
     (returns-in-Err-clause-stops c).refused.cause

@@ -33,6 +33,10 @@ returns-in-Ok-clause-gives c =
       leaves =
           subst (λ (told : List ℕ). LeavesRound AskByLines rom (record { save = save; recording = Some recording }) (record { save = now; recording = Some now_recording }) c.args.lines.now told true) (sym report_is)
           (whole_in rom save recording now now_recording (c.in-Ok.ensures.agree tt tt) c.args.lines.now unread report by);
+      said = record {
+        unread = unread;
+        all = subst (λ (told : List ℕ). HasRecorded rom (memory_disk save) (memory_disk now) (memory_disk recording) (memory_disk now_recording) Whole (Some c.args.lines.now) (Some unread) (Some []) (Some told)) (sym report_is) by;
+      };
       counts = (c.in-Ok.ensures.save_answered.faults_ok, c.in-Ok.ensures.recording_answered.faults_ok);
       ends = λ agree. (
         _,
@@ -70,7 +74,10 @@ returns-in-Err-clause-stops c =
       leaves = part.leaves;
       whole = λ failed. part.whole (failed_recorded refused.why failed) ∙ sym report_is;
       refused = record {
-        cause = record { unread = unread; report = report; cause = by };
+        cause = record {
+          unread = unread;
+          cause = subst (λ (told : List ℕ). IsRecordCause refused.why rom (memory_disk save) (memory_disk left) (memory_disk recording) (memory_disk left_recording) (Some c.args.lines.now) (Some unread) (Some []) (Some told)) (sym report_is) by;
+        };
         counted = record_counted save left recording left_recording refused.why c.in-Err.ensures.save_answered.faults c.in-Err.ensures.recording_answered.faults;
       };
     }
@@ -78,4 +85,4 @@ returns-in-Err-clause-stops c =
 pub returns-in-Err-clause-sound : goal.returns-in-Err-clause-sound
 returns-in-Err-clause-sound c = λ stand.
     play_sound c.args.cartridge.now (record { save = memory c.args.save; recording = Some (memory c.args.recording) }) (record { save = memory c.in-Err.refused.save; recording = Some (memory c.in-Err.refused.recording) })
-    c.args.lines.now (Record c.in-Err.refused.why) stand (returns-in-Err-clause-stops c).refused.cause
+    c.args.lines.now _ (Record c.in-Err.refused.why) stand (returns-in-Err-clause-stops c).refused.cause

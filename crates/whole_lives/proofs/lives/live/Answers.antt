@@ -13,7 +13,7 @@ returns-in-Ok-play-clause-lived g c = λ agree.
     let now = memories c.in-Ok.lived.0 in
     let given = c.in-Ok-play.given in
     let ends = c.in-Ok.lived.1.items in
-    let come = rounds_leave g.P.Player.asks rom c.args.rounds.now first now (reports_of ends) (wholes_of ends) c.in-Ok.ensures.rounds in
+    let come = rounds_leave g.P.Player.asks g.P.Player.obeys g.P.Player.refuses rom c.args.rounds.now first now (reports_of ends) (wholes_of ends) c.in-Ok.ensures.rounds in
     let gives = c.in-Ok-play.ensures.gives in
     let found = gives.ends (come.agree agree) in
     let files = found.0 in
@@ -27,7 +27,7 @@ returns-in-Ok-play-clause-rounds g c =
     record {
       left = memories c.in-Ok.lived.0;
       rounds_are = c.in-Ok.ensures.rounds;
-      taken_up = record { leaves = gives.leaves; counts = gives.counts; blown = λ no. absurd (true≢false no) };
+      taken_up = record { leaves = gives.leaves; said = gives.said; counts = gives.counts; blown = λ no. absurd (true≢false no) };
     }
 
 pub returns-in-Err-play-clause-left : goal.returns-in-Err-play-clause-left
@@ -40,7 +40,7 @@ returns-in-Err-play-clause-left g c =
       wholes = wholes_of ends ++ false ∷ [];
       are = inr refl;
       leaves = lived_both g.P.Player.asks c.args.cartridge.now (memories c.args.devices) (memories c.in-Ok.lived.0) (memories c.in-Err-play.stopped.refused.devices) (texts_of c.args.rounds.now) (reports_of ends) (wholes_of ends) ([] ∷ []) (stops.front ∷ []) (false ∷ [])
-          (rounds_leave g.P.Player.asks c.args.cartridge.now c.args.rounds.now (memories c.args.devices) (memories c.in-Ok.lived.0) (reports_of ends) (wholes_of ends) c.in-Ok.ensures.rounds) stops.leaves;
+          (rounds_leave g.P.Player.asks g.P.Player.obeys g.P.Player.refuses c.args.cartridge.now c.args.rounds.now (memories c.args.devices) (memories c.in-Ok.lived.0) (reports_of ends) (wholes_of ends) c.in-Ok.ensures.rounds) stops.leaves;
     }
 
 pub returns-in-Err-play-clause-refused : goal.returns-in-Err-play-clause-refused
@@ -54,12 +54,12 @@ returns-in-Err-play-clause-refused g c =
       now = now;
       reports = reports_of ends;
       wholes = wholes_of ends;
-      come = subst (λ (l : List Round). AreRounds g.P.Player.asks rom l (memories c.args.devices) now (reports_of ends) (wholes_of ends)) (sym (take_all (length rounds) rounds (omega arith))) c.in-Ok.ensures.rounds;
-      refused = inr (refl, c.in-Err-play.ensures.stops.refused);
+      come = subst (λ (l : List Round). AreRounds g.P.Player.asks g.P.Player.obeys g.P.Player.refuses rom l (memories c.args.devices) now (reports_of ends) (wholes_of ends)) (sym (take_all (length rounds) rounds (omega arith))) c.in-Ok.ensures.rounds;
+      refused = inr (refl, (_, c.in-Err-play.ensures.stops.refused));
     })
 
 pub returns-in-Err-play-clause-sound : goal.returns-in-Err-play-clause-sound
 returns-in-Err-play-clause-sound g c =
     let ends = c.in-Ok.lived.1.items in
-    let come = rounds_leave g.P.Player.asks c.args.cartridge.now c.args.rounds.now (memories c.args.devices) (memories c.in-Ok.lived.0) (reports_of ends) (wholes_of ends) c.in-Ok.ensures.rounds in
+    let come = rounds_leave g.P.Player.asks g.P.Player.obeys g.P.Player.refuses c.args.cartridge.now c.args.rounds.now (memories c.args.devices) (memories c.in-Ok.lived.0) (reports_of ends) (wholes_of ends) c.in-Ok.ensures.rounds in
     λ stand. c.in-Err-play.ensures.sound (come.stand stand)

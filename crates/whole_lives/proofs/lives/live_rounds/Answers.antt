@@ -15,7 +15,7 @@ loop-round-init g c =
     let none : c.in-Ok.ends.items ≡ [] = c.in-Ok.ensures.items in
     let first = memories c.args.devices in
     record {
-      rounds = subst (λ (ends : List RoundEnd). AreRounds g.P.Player.asks c.args.cartridge.now [] first first (reports_of ends) (wholes_of ends)) (sym none) refl;
+      rounds = subst (λ (ends : List RoundEnd). AreRounds g.P.Player.asks g.P.Player.obeys g.P.Player.refuses c.args.cartridge.now [] first first (reports_of ends) (wholes_of ends)) (sym none) refl;
       size = ap length none;
       room = omega (arith, c.in-Ok.ensures.capacity);
     }
@@ -40,7 +40,7 @@ returns-in-Err-clause-left g c =
       wholes = wholes_of ends ++ stopped.1 ∷ [];
       are = inl (i + 1, texts_more rounds i c.round-item.result c.loop-round-test.true);
       leaves = lived_both g.P.Player.asks rom first now left (texts_of (take i rounds)) (reports_of ends) (wholes_of ends) (lines ∷ []) (stopped.0 ∷ []) (stopped.1 ∷ [])
-          (rounds_leave g.P.Player.asks rom (take i rounds) first now (reports_of ends) (wholes_of ends) c.loop-round.invariant.rounds)
+          (rounds_leave g.P.Player.asks g.P.Player.obeys g.P.Player.refuses rom (take i rounds) first now (reports_of ends) (wholes_of ends) c.loop-round.invariant.rounds)
           (subst (λ (round : Round). LeavesRound g.P.Player.asks rom now left round.lines.items stopped.0 stopped.1) c.round-item.is stopped.2);
     }
 
@@ -57,13 +57,13 @@ returns-in-Err-clause-refused g c =
       reports = reports_of c.loop-round.ends.items;
       wholes = wholes_of c.loop-round.ends.items;
       come = c.loop-round.invariant.rounds;
-      refused = inl (_, slice_get-get_or rounds i c.round-item.result c.loop-round-test.true, subst (λ (round : Round). RefusesRound g.P.Player.asks g.P.Player.refuses rom now (memories refused.devices) round refused.why) c.round-item.is c.in-Err.ensures.refused);
+      refused = inl (_, slice_get-get_or rounds i c.round-item.result c.loop-round-test.true, subst (λ (round : Round). RefusesRound g.P.Player.asks g.P.Player.obeys g.P.Player.refuses rom now (memories refused.devices) round refused.why) c.round-item.is c.in-Err.ensures.refused);
     })
 
 pub returns-in-Err-clause-sound : goal.returns-in-Err-clause-sound
 returns-in-Err-clause-sound g c =
     let ends = c.loop-round.ends.items in
-    let leaves = rounds_leave g.P.Player.asks c.args.cartridge.now (take c.loop-round.round-index c.args.rounds.now) (memories c.args.devices) (memories c.loop-round.left) (reports_of ends) (wholes_of ends) c.loop-round.invariant.rounds in
+    let leaves = rounds_leave g.P.Player.asks g.P.Player.obeys g.P.Player.refuses c.args.cartridge.now (take c.loop-round.round-index c.args.rounds.now) (memories c.args.devices) (memories c.loop-round.left) (reports_of ends) (wholes_of ends) c.loop-round.invariant.rounds in
     λ stand. c.in-Err.ensures.sound (leaves.stand stand)
 
 pub loop-round-preserved : goal.loop-round-preserved
@@ -76,13 +76,13 @@ loop-round-preserved g c =
     let first = memories c.args.devices in
     let now = memories c.loop-round.left in
     let next = memories c.in-Ok-one_round.devices in
-    let cut = subst (λ (round : Round). IsCutRound g.P.Player.asks rom now round next end.report.items end.whole) c.round-item.is c.in-Ok-one_round.ensures.cut in
+    let cut = subst (λ (round : Round). IsCutRound g.P.Player.asks g.P.Player.obeys g.P.Player.refuses rom now round next end.report.items end.whole) c.round-item.is c.in-Ok-one_round.ensures.cut in
     record {
       rounds =
-          subst (λ (l : List RoundEnd). AreRounds g.P.Player.asks rom (take (i + 1) rounds) first next (reports_of l) (wholes_of l)) (sym c.push_reserved.ensures.items)
-          (ends_more (AreRounds g.P.Player.asks rom (take (i + 1) rounds) first next) ends end
-          (subst (λ (l : List Round). AreRounds g.P.Player.asks rom l first next (reports_of ends ++ end.report.items ∷ []) (wholes_of ends ++ end.whole ∷ [])) (take_more rounds i c.round-item.result c.loop-round-test.true)
-          (rounds_more g.P.Player.asks rom (take i rounds) first now next (reports_of ends) (wholes_of ends) _ end.report.items end.whole c.loop-round.invariant.rounds cut)));
+          subst (λ (l : List RoundEnd). AreRounds g.P.Player.asks g.P.Player.obeys g.P.Player.refuses rom (take (i + 1) rounds) first next (reports_of l) (wholes_of l)) (sym c.push_reserved.ensures.items)
+          (ends_more (AreRounds g.P.Player.asks g.P.Player.obeys g.P.Player.refuses rom (take (i + 1) rounds) first next) ends end
+          (subst (λ (l : List Round). AreRounds g.P.Player.asks g.P.Player.obeys g.P.Player.refuses rom l first next (reports_of ends ++ end.report.items ∷ []) (wholes_of ends ++ end.whole ∷ [])) (take_more rounds i c.round-item.result c.loop-round-test.true)
+          (rounds_more g.P.Player.asks g.P.Player.obeys g.P.Player.refuses rom (take i rounds) first now next (reports_of ends) (wholes_of ends) _ end.report.items end.whole c.loop-round.invariant.rounds cut)));
       size = omega (arith, c.loop-round.invariant.size, ap length c.push_reserved.ensures.items, length_push ends end);
       room = omega (arith, c.loop-round.invariant.room, c.push_reserved.ensures.capacity);
     }
@@ -90,5 +90,5 @@ loop-round-preserved g c =
 pub returns-clause-rounds : goal.returns-clause-rounds
 returns-clause-rounds g c =
     let ends = c.loop-round.ends.items in
-    subst (λ (l : List Round). AreRounds g.P.Player.asks c.args.cartridge.now l (memories c.args.devices) (memories c.loop-round.left) (reports_of ends) (wholes_of ends)) (take_all c.loop-round.round-index c.args.rounds.now c.loop-round-test.false)
+    subst (λ (l : List Round). AreRounds g.P.Player.asks g.P.Player.obeys g.P.Player.refuses c.args.cartridge.now l (memories c.args.devices) (memories c.loop-round.left) (reports_of ends) (wholes_of ends)) (take_all c.loop-round.round-index c.args.rounds.now c.loop-round-test.false)
     c.loop-round.invariant.rounds

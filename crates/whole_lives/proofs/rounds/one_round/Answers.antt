@@ -1,10 +1,10 @@
 use Rattle.std.proofs.Common.{◌≡◌, List, ℕ, Bool, false, inl, inr, refl, sym, subst}
 use Rattle.sector_device.specs.MemoryDevice.{memory}
 use Rattle.whole_lives.specs.Lives.{Asking}
-use Rattle.whole_lives.specs.Devices.{Memories, memories, CountsCut, EachStands, IsCut, IsCutIfThere, IsPlayed, LeavesRound, RefusesPlay, with_fuses}
+use Rattle.whole_lives.specs.Devices.{Memories, memories, EachStands, IsCut, IsCutIfThere, IsPlayed, LeavesRound, Obeying, Refusing, RefusesPlay, with_fuses}
 use Rattle.whole_lives.specs.declared.devices.Devices.{Devices}
 use Rattle.whole_lives.specs.declared.rounds.Round.{Round}
-use Rattle.whole_lives.proofs.Behind.{fused_leaves, fused_counts}
+use Rattle.whole_lives.proofs.Behind.{fused_leaves}
 use Rattle.whole_lives.proofs.rounds.one_round.Goals as goal
 
 pub returns-in-Err-clause-refused : goal.returns-in-Err-clause-refused
@@ -15,9 +15,11 @@ returns-in-Err-clause-refused g c =
     let why = c.in-Err.refused.why in
     let refuses = g.P.Player.refuses in
     let lines_are : c.deref.result.now ≡ round.lines.items = cc in
+    let report = c.in-Err.ensures.refused.0 in
     inl (
-      subst (λ (m : Memories). RefusesPlay refuses rom m left round.lines.items why) c.with_fuses-fused.ensures
-          (subst (λ (text : List ℕ). RefusesPlay refuses rom (memories c.with_fuses-fused.result) left text why) lines_are c.in-Err.ensures.refused),
+      report,
+      subst (λ (m : Memories). RefusesPlay refuses rom m left round.lines.items report why) c.with_fuses-fused.ensures
+          (subst (λ (text : List ℕ). RefusesPlay refuses rom (memories c.with_fuses-fused.result) left text report why) lines_are c.in-Err.ensures.refused.1),
       c.in-Err.ensures.fuse,
     )
 
@@ -31,12 +33,11 @@ module _ (round : Round) (devices fused : Devices) (is : memories fused ≡ with
       fused_leaves round asks rom (memories devices) now lines report whole
       (subst (λ (m : Memories). LeavesRound asks rom m now lines report whole) is (subst (λ (text : List ℕ). LeavesRound asks rom (memories fused) now text report whole) lines_are leaves))
 
-  played_unfused : IsPlayed asks rom (memories fused) now given report whole → IsPlayed asks rom (memories devices) now lines report whole
-  played_unfused played = record {
-    leaves = leaves_unfused played.leaves;
-    counts = fused_counts round (memories devices) whole now (subst (λ (m : Memories). CountsCut whole m now) is played.counts);
-    blown = played.blown;
-  }
+-- a round's lines on devices with its fuses
+played_as : (asks : Asking) (obeys : Obeying) (refuses : Refusing) (rom : List ℕ) (old first now : Memories) (given lines report : List ℕ) (whole : Bool) → old ≡ first → given ≡ lines → IsPlayed asks obeys refuses rom old now given report whole
+    → IsPlayed asks obeys refuses rom first now lines report whole
+played_as asks obeys refuses rom old first now given lines report whole is lines_are played =
+    subst (λ (m : Memories). IsPlayed asks obeys refuses rom m now lines report whole) is (subst (λ (text : List ℕ). IsPlayed asks obeys refuses rom old now text report whole) lines_are played)
 
 pub returns-in-Err-clause-stopped : goal.returns-in-Err-clause-stopped
 returns-in-Err-clause-stopped g c =
@@ -58,7 +59,7 @@ returns-in-Ok-cut-clause-cut g c =
     let recording_kept : c.deref-3.result.now ≡ round.recording_kept.items = cc in
     record {
       played = memories played;
-      is_played = played_unfused round c.args.devices c.with_fuses-fused.result c.with_fuses-fused.ensures (memories played) g.P.Player.asks c.args.cartridge.now c.deref.result.now round.lines.items end.report.items end.whole lines_are c.in-Ok.ensures.played;
+      is_played = played_as g.P.Player.asks g.P.Player.obeys g.P.Player.refuses c.args.cartridge.now (memories c.with_fuses-fused.result) (with_fuses round (memories c.args.devices)) (memories played) c.deref.result.now round.lines.items end.report.items end.whole c.with_fuses-fused.ensures lines_are c.in-Ok.ensures.played;
       save = subst (λ (kept : List Bool). IsCut kept (memory played.save) (memory c.in-Ok-cut.left.save)) save_kept c.in-Ok-cut.ensures.save;
       recording = subst (λ (kept : List Bool). IsCutIfThere kept (memories played).recording (memories c.in-Ok-cut.left).recording) recording_kept c.in-Ok-cut.ensures.recording;
     }
@@ -73,7 +74,7 @@ returns-in-Err-cut-clause-refused g c =
       why_is = refl;
       report = end.report.items;
       whole = end.whole;
-      is_played = played_unfused round c.args.devices c.with_fuses-fused.result c.with_fuses-fused.ensures (memories played) g.P.Player.asks c.args.cartridge.now c.deref.result.now round.lines.items end.report.items end.whole lines_are c.in-Ok.ensures.played;
+      is_played = played_as g.P.Player.asks g.P.Player.obeys g.P.Player.refuses c.args.cartridge.now (memories c.with_fuses-fused.result) (with_fuses round (memories c.args.devices)) (memories played) c.deref.result.now round.lines.items end.report.items end.whole c.with_fuses-fused.ensures lines_are c.in-Ok.ensures.played;
     })
 
 pub returns-in-Err-cut-clause-stopped : goal.returns-in-Err-cut-clause-stopped

@@ -9,6 +9,7 @@ returns-in-Ok-clause-played g c =
     let old = memories c.args.devices in
     record {
       leaves = subst (λ (m : Memories). LeavesRound g.P.Player.asks c.args.cartridge.now old m c.args.lines.now c.in-Ok.given.report.items true) (sym c.into_devices.ensures) gives.leaves;
+      said = subst (λ (m : Memories). g.P.Player.obeys c.args.cartridge.now old m c.args.lines.now c.in-Ok.given.report.items) (sym c.into_devices.ensures) gives.said;
       counts = subst (CountsCut true old) (sym c.into_devices.ensures) gives.counts;
       blown = λ no. absurd (true≢false no);
     }
