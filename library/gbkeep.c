@@ -42,6 +42,8 @@ uint32_t gbkeep_raw_session_next_call(struct handle session, uint64_t *sector, u
 void gbkeep_raw_session_picture(struct handle session, uint8_t *shades, size_t length, struct handle *out);
 size_t gbkeep_raw_session_state_length(struct handle session, struct handle *out);
 void gbkeep_raw_session_state(struct handle session, uint8_t *bytes, size_t length, struct handle *out);
+void gbkeep_raw_session_memory(struct handle session, uint16_t address, uint8_t *bytes, size_t length, struct handle *out);
+uint32_t gbkeep_raw_session_region(struct handle session, uint32_t which, uint8_t *bytes, size_t length, struct handle *out);
 uint64_t gbkeep_raw_session_count(struct handle session, struct handle *out);
 size_t gbkeep_raw_session_battery_length(struct handle session, struct handle *out);
 uint32_t gbkeep_raw_session_battery(struct handle session, uint8_t *bytes, size_t length, struct handle *out);
@@ -300,6 +302,21 @@ uint64_t gbkeep_session_count(const gbkeep_session *session) {
     uint64_t count = gbkeep_raw_session_count(session->handle, &same);
     NEEDS(same.at == session->handle.at);
     return count;
+}
+
+void gbkeep_session_memory(const gbkeep_session *session, uint16_t address, uint8_t *bytes, size_t length) {
+    NEEDS(session != NULL);
+    struct handle same;
+    gbkeep_raw_session_memory(session->handle, address, write_to(bytes, length), length, &same);
+    NEEDS(same.at == session->handle.at);
+}
+
+uint32_t gbkeep_session_region(const gbkeep_session *session, uint32_t which, uint8_t *bytes, size_t length) {
+    NEEDS(session != NULL);
+    struct handle same;
+    uint32_t code = gbkeep_raw_session_region(session->handle, which, write_to(bytes, length), length, &same);
+    NEEDS(same.at == session->handle.at);
+    return code;
 }
 
 size_t gbkeep_session_battery_length(const gbkeep_session *session) {

@@ -180,6 +180,21 @@ uint32_t gbkeep_session_picture(gbkeep_session *session, uint8_t *shades, size_t
 size_t gbkeep_session_state_length(const gbkeep_session *session);
 uint32_t gbkeep_session_state(gbkeep_session *session, uint8_t *bytes, size_t length);
 
+/* As of a machine: writes what the program would read from `address` on, were no memory closed to it. */
+void gbkeep_session_memory(const gbkeep_session *session, uint16_t address, uint8_t *bytes, size_t length);
+
+/* The memories of a machine: 8,192 bytes each; 160; 127; and of the cartridge's RAM as many as it has. */
+enum {
+    GBKEEP_VRAM = 0,
+    GBKEEP_WRAM = 1,
+    GBKEEP_OAM = 2,
+    GBKEEP_HRAM = 3,
+    GBKEEP_CARTRIDGE_RAM = 4
+};
+
+/* Copies the first `length` bytes of a memory, whatever is closed or mapped. Refused where it has fewer, or is none of these: GBKEEP_WRONG_LENGTH. */
+uint32_t gbkeep_session_region(const gbkeep_session *session, uint32_t which, uint8_t *bytes, size_t length);
+
 /* How many bytes the battery file of the game has: those of the cartridge's RAM, and 48 more for an MBC3 clock. */
 size_t gbkeep_session_battery_length(const gbkeep_session *session);
 

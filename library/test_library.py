@@ -875,6 +875,23 @@ class OneProtocol(InFolder):
             self.assertLess(time.monotonic() - began, 10)
             machine.frame()
 
+    def test_a_session_copies_its_memories(self):
+        with Session(DEMO) as session:
+            session.frames(0x80, 40)
+            state = session.state()
+
+            def region(which, length):
+                room = ctypes.create_string_buffer(b'\xa5' * (length + 1), length + 1)
+                return session._call('region', which, room, length), room.raw[:length], room.raw[length]
+
+            for which, length, wanted in ((0, 0x2000, session.memory(0x8000, 0x2000)), (1, 0x2000, session.memory(0xc000, 0x2000)),
+                                          (2, 160, session.memory(0xfe00, 160)), (3, 127, session.memory(0xff80, 127)), (4, 0x8000, state[22647:])):
+                self.assertEqual(region(which, length), (0, wanted, 0xa5))
+                self.assertEqual(region(which, length // 2), (0, wanted[:length // 2], 0xa5))
+                self.assertEqual(region(which, length + 1), (18, b'\xa5' * (length + 1), 0xa5))
+            self.assertEqual(region(5, 1), (18, b'\xa5', 0xa5))
+            self.assertEqual(session.state(), state)
+
     def test_a_session_reads_memory_and_keeps_states_as_inputs(self):
         with Session(ROM) as session, Machine(ROM) as machine:
             for one in (session, machine):

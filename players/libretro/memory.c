@@ -2,16 +2,8 @@
 #include "core.h"
 #include <string.h>
 
-/* where a state has what the front end may look at: it is a header, which names the ROM, and a snapshot (docs/SNAPSHOT.md) */
-enum {
-    STATE_HEADER = 40,
-    STATE_IE = STATE_HEADER + 22,
-    STATE_VRAM = STATE_HEADER + 128,
-    STATE_WRAM = STATE_HEADER + 8320,
-    STATE_OAM = STATE_HEADER + 16512,
-    STATE_HRAM = STATE_HEADER + 16672,
-    STATE_CART_RAM = STATE_HEADER + 22607
-};
+/* what a state has beside the cartridge's RAM */
+enum { STATE_WITHOUT_RAM = 22647 };
 
 /* the address space, as far as the front end sees it, and whether that has its address; it outlives a game */
 static uint8_t view[0x10000];
@@ -27,16 +19,15 @@ const uint8_t *state_now(void) {
 }
 
 void look_into(void) {
-    size_t ram = game.state_length - STATE_CART_RAM;
+    size_t ram = game.state_length - STATE_WITHOUT_RAM;
     if (!is_looked_at || !game.session)
         return;
-    state_now();
-    memcpy(view + 0x8000, game.state + STATE_VRAM, 0x2000);
-    memcpy(view + 0xa000, game.state + STATE_CART_RAM, ram < 0x2000 ? ram : 0x2000);
-    memcpy(view + 0xc000, game.state + STATE_WRAM, 0x2000);
-    memcpy(view + 0xfe00, game.state + STATE_OAM, 0xa0);
-    memcpy(view + 0xff80, game.state + STATE_HRAM, 0x7f);
-    view[0xffff] = game.state[STATE_IE];
+    gbkeep_session_region(game.session, GBKEEP_VRAM, view + 0x8000, 0x2000);
+    gbkeep_session_region(game.session, GBKEEP_CARTRIDGE_RAM, view + 0xa000, ram < 0x2000 ? ram : 0x2000);
+    gbkeep_session_region(game.session, GBKEEP_WRAM, view + 0xc000, 0x2000);
+    gbkeep_session_region(game.session, GBKEEP_OAM, view + 0xfe00, 0xa0);
+    gbkeep_session_region(game.session, GBKEEP_HRAM, view + 0xff80, 0x7f);
+    gbkeep_session_memory(game.session, 0xffff, view + 0xffff, 1);
 }
 
 /* A map of the address space, which may be read alone: of switched memory its first bank. */

@@ -98,6 +98,8 @@ _CALLS = {
     'session_picture': (_WORD, _POINTER, _POINTER, _LENGTH),
     'session_state_length': (_LENGTH, _POINTER),
     'session_state': (_WORD, _POINTER, _POINTER, _LENGTH),
+    'session_memory': (None, _POINTER, ctypes.c_uint16, _POINTER, _LENGTH),
+    'session_region': (_WORD, _POINTER, _WORD, _POINTER, _LENGTH),
     'session_battery_length': (_LENGTH, _POINTER),
     'session_battery': (_WORD, _POINTER, _POINTER, _LENGTH),
     'session_count': (_LONG, _POINTER),
@@ -216,6 +218,14 @@ class _Held(Played):
         # there is none any more where another thread closes it meanwhile, and then `_call` says so
         self._take(self._states.get(number, b''))
 
+    def _memory(self, address: int, count: int) -> bytes:
+        read = ctypes.create_string_buffer(count)
+        self._call('memory', address, read, count)
+        return read.raw
+
+    def _memory_into(self, address: int, room: memoryview) -> None:
+        self._call('memory', address, _for_c(room), room.nbytes)
+
     def _copy(self, into: Optional[ctypes.Array]) -> ctypes.Array:
         """The machine as it is, in place of another one: its state, since the library has no call that copies a machine."""
         into = into or ctypes.create_string_buffer(self.state_length())
@@ -258,14 +268,6 @@ class Machine(_Held):
     def _power(self) -> None:
         _done(self._call('power'))
 
-    def _memory(self, address: int, count: int) -> bytes:
-        read = ctypes.create_string_buffer(count)
-        self._call('memory', address, read, count)
-        return read.raw
-
-    def _memory_into(self, address: int, room: memoryview) -> None:
-        self._call('memory', address, _for_c(room), room.nbytes)
-
 
 def sectors_needed(rom: Cart) -> int:
     """How many sectors a session of this ROM needs at least."""
@@ -298,7 +300,6 @@ class Session(_Held):
         else:
             image = bytes_of(image)
             self._make('resume', rom, len(rom), image, len(image))
-        self._rom, self._reader, self._is_read = rom, None, False
         self.saved = self._last = self._call('count')
 
     @property
@@ -314,7 +315,6 @@ class Session(_Held):
         with self._lock:
             self._last = self.count
             super().close()
-            self._reader = None
 
     def _frames(self, buttons: int, count: int) -> None:
         self._give('frames', buttons, count)
@@ -325,31 +325,8 @@ class Session(_Held):
     def _power(self) -> None:
         self._give('power')
 
-    def _take(self, state: object) -> None:
-        with self._lock:
-            self._is_read = False
-            super()._take(state)
-
     def _give(self, kind: str, *given: int) -> None:
-        with self._lock:
-            self._is_read = False
-            _done(self._call(kind, *given))
-
-    def _memory(self, address: int, count: int) -> bytes:
-        return self._machine().memory(address, count)
-
-    def _memory_into(self, address: int, room: memoryview) -> None:
-        self._machine().memory_into(address, room)
-
-    def _machine(self) -> Machine:
-        """A machine that is as the session's: the library has no call that reads the memory of a session."""
-        with self._lock:
-            if self._reader is None:
-                self._reader = Machine(self._rom)
-            if not self._is_read:
-                self._reader._take(self._copy(None))
-                self._is_read = True
-            return self._reader
+        _done(self._call(kind, *given))
 
     def battery(self) -> bytes:
         """The battery file of the game, as other emulators read it. Refused for a cartridge without battery."""

@@ -31,6 +31,10 @@ no_memory = 1
 abbrev pub no_time : ℕ
 no_time = 22
 
+-- room for another number of bytes
+abbrev pub wrong_length : ℕ
+wrong_length = 18
+
 -- rom length, cartridge type, ram code, too many banks
 abbrev pub cart_code : CartError → ℕ
 cart_code (Length n) = 2

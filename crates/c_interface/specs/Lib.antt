@@ -1,3 +1,4 @@
 pub mod Clocks
 pub mod Codes
 pub mod Handles
+pub mod Memories

@@ -17,6 +17,9 @@ pub const NO_MEMORY: u32 = 1;
 /// Bytes that are no text of SAVE.time.
 pub const NO_TIME: u32 = 22;
 
+/// Room for another number of bytes.
+pub const WRONG_LENGTH: u32 = 18;
+
 fn cart_code(why: CartError) -> u32
     ensures code { result ≡ cart_code why }
     ensures refused { ¬ (result ≡ done) }

@@ -14,17 +14,18 @@ ghost use Rattle.session.specs.Stands.{IsAtRest, StandsAt, StandsBetween};
 ghost use Rattle.session.specs.Inputs.{can_be_logged, entry_of, inputs_of};
 ghost use Rattle.battery_files.specs.Battery.{battery_length, battery_of};
 ghost use Rattle.battery_files.specs.Importing.{start_with};
-ghost use Rattle.embedding.specs.Orders.{shades_of};
+ghost use Rattle.embedding.specs.Orders.{bytes_from, shades_of};
 ghost use Rattle.embedding.specs.Games.{IsFrom, IsTaken, KeepsInputs};
 ghost use Rattle.embedding.specs.Calls.{image_calls};
 ghost use Rattle.embedding.specs.HostDevices.{HasHandedOut, calls_of, count_of, handed_of, host_disk};
 ghost use Rattle.embedding.specs.declared.host_device.Call.TheVariants.{Write, Sync};
+ghost use Rattle.c_interface.specs.Memories.{region_at, IsCopied, IsRegionAnswer};
 ghost use Rattle.c_interface.specs.Codes.{done, answer_code, no_call, a_write, a_sync, IsBatteryCode, IsBegunCode, IsImportedCode, IsNeededCode, IsPowerCode, IsSaveCode, IsStateCode, IsTakenUpCode};
 
-use crate::codes::{DONE, NO_MEMORY, game_code, session_code};
+use crate::codes::{DONE, NO_MEMORY, WRONG_LENGTH, game_code, session_code};
 use crate::session_handle::SessionHandle;
 use embedding::{Call, Game, sectors_of};
-use machine::Input;
+use machine::{Input, Region};
 use std::alloc::Global;
 
 /// The kind of a call that there is not.
@@ -440,6 +441,71 @@ pub extern "C" fn gbkeep_raw_session_state(
     let mut game = session.into_box();
     game.state(bytes);
     *out = SessionHandle::of(game);
+}
+
+/// Writes what the program would read from `address` on.
+#[unsafe(no_mangle)]
+pub extern "C" fn gbkeep_raw_session_memory(
+    session: SessionHandle,
+    address: u16,
+    bytes: &mut [u8],
+    out: &mut SessionHandle,
+)
+    requires held { session.held ≡ true }
+    ensures held { out.new.held ≡ true }
+    ensures bytes { bytes.new ≡ bytes_from (machine_of session.value.session) address (length bytes.old) }
+    ensures session { out.new.value.session ≡ session.value.session }
+{
+    let game = session.into_box();
+    game.memory(address, bytes);
+    *out = SessionHandle::of(game);
+}
+
+/// The memory of a machine with this number.
+fn region_named(which: u32) -> Option<Region>
+    ensures { result ≡ region_at which }
+{
+    match which {
+        0 => Some(Region::Vram),
+        1 => Some(Region::Wram),
+        2 => Some(Region::Oam),
+        3 => Some(Region::Hram),
+        4 => Some(Region::CartRam),
+        _ => None,
+    }
+}
+
+fn copied(from: &[u8], bytes: &mut [u8]) -> u32
+    ensures { IsCopied from.now bytes.old bytes.new result }
+{
+    let count = bytes.len();
+    if count > from.len() {
+        return WRONG_LENGTH;
+    }
+    bytes.copy_from_slice(&from[..count]);
+    DONE
+}
+
+/// Copies the first bytes of a memory of the machine, whatever is closed or mapped: as many as there is room for. A refusal leaves `bytes` as they were.
+#[unsafe(no_mangle)]
+pub extern "C" fn gbkeep_raw_session_region(
+    session: SessionHandle,
+    which: u32,
+    bytes: &mut [u8],
+    out: &mut SessionHandle,
+) -> u32
+    requires held { session.held ≡ true }
+    ensures held { out.new.held ≡ true }
+    ensures answer { IsRegionAnswer (region_at which) (machine_of session.value.session).processor.memory bytes.old bytes.new result }
+    ensures session { out.new.value.session ≡ session.value.session }
+{
+    let game = session.into_box();
+    let code = match region_named(which) {
+        Some(region) => copied(game.region(region), bytes),
+        None => WRONG_LENGTH,
+    };
+    *out = SessionHandle::of(game);
+    code
 }
 
 /// How many bytes the battery file has.

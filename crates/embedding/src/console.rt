@@ -11,6 +11,7 @@ ghost use Rattle.embedding.specs.Orders.{shades_of, bytes_from, IsNewCause, IsRe
 ghost use Rattle.embedding.specs.declared.error.ConsoleError.TheVariants.{Memory};
 
 use crate::error::ConsoleError;
+use crate::looking::write_memory;
 use crate::shades::write_shades;
 use crate::states::{named, write_state};
 use cartridge::Cartridge;
@@ -158,8 +159,6 @@ impl Console {
     pub fn memory(&self, address: u16, bytes: &mut [u8])
         ensures { bytes.new ≡ bytes_from self.now.machine address (length bytes.old) }
     {
-        for k in 0..bytes.len() {
-            bytes[k] = self.machine.peek(((address as usize + k) % 65_536) as u16);
-        }
+        write_memory(&self.machine, address, bytes);
     }
 }

@@ -3,6 +3,7 @@
 ghost use Rattle.std.specs.Prelude.{◌≡◌, ◌<◌, ◌+◌, ◌*◌, ◌++◌, ◌∷◌, ◌⊎◌, [], true, false, ℕ, List, length, slice_range, Some, Ok, IfOk, IfErr, OnOk, OnErr};
 ghost use Rattle.cartridge.specs.Accepted.{IsAccepted, refusal_of};
 ghost use Rattle.cartridge.specs.Header.{has_battery, ram_length_of};
+ghost use Rattle.memory_map.specs.Stores.{region_of};
 ghost use Rattle.machine.specs.Machine.{Power, State, start, as_input, applied, picture_rows};
 ghost use Rattle.snapshot.specs.Encoding.{snapshot_length};
 ghost use Rattle.state_header.specs.States.{state_length, state_of};
@@ -15,7 +16,7 @@ ghost use Rattle.session.specs.Stands.{IsAtRest, StandsAt, StandsBetween};
 ghost use Rattle.session.specs.Inputs.{can_be_logged, entry_of, inputs_of};
 ghost use Rattle.battery_files.specs.Battery.{battery_length, battery_of};
 ghost use Rattle.battery_files.specs.Importing.{IsImportCause as IsFileCause, start_with};
-ghost use Rattle.embedding.specs.Orders.{shades_of};
+ghost use Rattle.embedding.specs.Orders.{bytes_from, shades_of};
 ghost use Rattle.embedding.specs.Games.{IsBatteryCause, IsBeginCause, IsCartCause, IsFrom, IsImportCause, IsPowerAnswer, IsSaveCause, IsTakeUpCause, IsTaken, KeepsInputs};
 ghost use Rattle.embedding.specs.Calls.{image_calls};
 ghost use Rattle.embedding.specs.HostDevices.{HasHandedOut, calls_of, count_of, handed_of, host_disk, waiting_of};
@@ -23,6 +24,7 @@ ghost use Rattle.embedding.specs.States.{IsStateAnswer};
 
 use crate::error::GameError;
 use crate::host_device::{Call, HostDevice};
+use crate::looking::write_memory;
 use crate::shades::write_shades;
 use crate::states::{named, told_of_other, write_state};
 use battery_files::{ImportError, battery_length, battery_of, machine_with_battery};
@@ -316,6 +318,20 @@ impl Game {
     {
         self.session.draw_late();
         write_state(self.session.machine(), &self.cartridge, bytes);
+    }
+
+    /// Writes what the program would read from `address` on, as `Console::memory` does.
+    pub fn memory(&self, address: u16, bytes: &mut [u8])
+        ensures { bytes.new ≡ bytes_from (machine_of self.now.session) address (length bytes.old) }
+    {
+        write_memory(self.session.machine(), address, bytes);
+    }
+
+    /// The bytes of a memory of the machine, whatever is closed or mapped.
+    pub fn region(&self, region: Region) -> &[u8]
+        ensures { result.now ≡ region_of (machine_of self.now.session).processor.memory region }
+    {
+        self.session.machine().region(region)
     }
 
     /// The bytes of the battery file: those of the cartridge's RAM, and 48 more for the clock of MBC3.

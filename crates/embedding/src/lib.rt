@@ -8,6 +8,7 @@ mod console;
 mod error;
 mod game;
 mod host_device;
+mod looking;
 mod shades;
 mod states;
 
