@@ -1,5 +1,5 @@
 -- The memories of a machine by their numbers in C.
-use Rattle.std.specs.Prelude.{◌≡◌, ◌×◌, ◌⊎◌, ◌≤◌, ◌<◌, ℕ, List, Option, None, Some, ◌==◌, length, take, if◌then◌else◌}
+use Rattle.std.specs.Prelude.{◌≡◌, ◌⊎◌, ◌≤◌, ◌<◌, ℕ, List, Option, None, Some, ◌==◌, length, take, if◌then◌else◌}
 use Rattle.memory_map.specs.State.{BusState}
 use Rattle.memory_map.specs.Stores.{region_of}
 use Rattle.memory_map.specs.declared.region.Region.{Region}
