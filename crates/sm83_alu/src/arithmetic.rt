@@ -1,24 +1,32 @@
 //! Sums and differences.
 
-ghost use Rattle.std.specs.Prelude.{◌≡◌};
+ghost use Rattle.std.specs.Prelude.{◌≡◌, nat_le, nat_lt, if◌then◌else◌};
 ghost use Rattle.sm83_alu.specs.Flags.{digit_of};
 ghost use Rattle.sm83_alu.specs.Arithmetic.{sum_of, difference_of, increment_of, decrement_of, next_word, previous_word, word_sum_of, offset_sum_of, decimal_of};
 
 use crate::register_file::{Flags, Outcome, WordOutcome};
 
+/// Whether a sum is below its first term, or no more than it where `carry` is set.
+#[inline(always)]
+fn wraps_below(sum: u8, first: u8, carry: bool) -> bool
+    ensures { result ≡ (if carry then nat_le sum first else nat_lt sum first) }
+{
+    if carry { sum <= first } else { sum < first }
+}
+
 /// ADD and ADC: `a + b`, and 1 more where `carry` is set.
 pub fn add(a: u8, b: u8, carry: bool) -> Outcome
     ensures { result ≡ sum_of a b (digit_of carry) }
 {
-    let carry = if carry { 1 } else { 0 };
-    let value = a.wrapping_add(b).wrapping_add(carry);
+    // A sum that wraps is below its first term, or no more than it where 1 was added: so the host makes no wider one.
+    let value = a.wrapping_add(b).wrapping_add(if carry { 1 } else { 0 });
     Outcome {
         value,
         flags: Flags {
             zero: value == 0,
             subtract: false,
-            half_carry: (a & 0x0f) + (b & 0x0f) + carry > 0x0f,
-            carry: u16::from(a) + u16::from(b) + u16::from(carry) > 0xff,
+            half_carry: wraps_below(value & 0x0f, a & 0x0f, carry),
+            carry: wraps_below(value, a, carry),
         },
     }
 }
