@@ -7,6 +7,10 @@ use Rattle.memory_map.specs.declared.place.Place.TheVariants.{Cartridge, Vram, W
 abbrev pub address_after : ℕ → ℕ
 address_after a = (a + 1) % 65536
 
+-- the address before; before 0000 comes FFFF
+abbrev pub address_before : ℕ → ℕ
+address_before a = (a + (65536 - 1)) % 65536
+
 -- the place that an address names. The cartridge and the registers go by the address itself, every other place by its
 -- offset. E000-FDFF are an echo of C000-DDFF.
 abbrev pub place : ℕ → Place

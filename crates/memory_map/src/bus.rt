@@ -1,6 +1,6 @@
 //! All that the processor reaches by address.
 
-ghost use Rattle.std.specs.Prelude.{◌≡◌, ◌<◌, IfOk, vec_len, slice_index, if◌then◌else◌};
+ghost use Rattle.std.specs.Prelude.{◌≡◌, ◌<◌, ◌≤◌, ◌+◌, ◌*◌, ◌/◌, ◌%◌, true, IfOk, vec_len, slice_index, if◌then◌else◌};
 
 mod clock;
 mod contents;
@@ -78,6 +78,23 @@ impl Model for Bus {
     }) };
 }
 
+/// Whether an address names WRAM by its own range, and not by the echo.
+#[inline(always)]
+fn is_in_wram(address: u16) -> bool
+    ensures from { result ≡ true → 0xc000 ≤ address }
+    ensures to { result ≡ true → address < 0xe000 }
+{
+    address >= 0xc000 && address < 0xe000
+}
+
+#[inline(always)]
+fn is_in_hram(address: u16) -> bool
+    ensures from { result ≡ true → 0xff80 ≤ address }
+    ensures to { result ≡ true → address < 0xffff }
+{
+    address >= 0xff80 && address < 0xffff
+}
+
 #[tactic(auto, unfolding(crate::specs::State::zeros))]
 fn zeros(alloc: Global, count: usize) -> Result<Vec<u8>, AllocError>
     ensures items { IfOk result (λ v. v.items ≡ zeros count) }
@@ -104,7 +121,7 @@ ghost use Rattle.memory_map.specs.State.{zeros};
 
 impl Bus {
     ghost use Rattle.memory_map.specs.State.{bus_at_power_on};
-    ghost use Rattle.memory_map.specs.Map.{place, address_after};
+    ghost use Rattle.memory_map.specs.Map.{place, address_after, address_before};
     ghost use Rattle.std.specs.Prelude.{[], ◌∷◌};
     ghost use Rattle.memory_map.specs.Bus.{value_at, is_closed, stored_at, peeked, read_at, written, buttons_set};
 
@@ -140,20 +157,65 @@ impl Bus {
     pub fn read(&self, address: u16) -> u8
         ensures { result ≡ read_at self.now address }
     {
-        // The lower half of ROM comes first, since most code runs there.
+        // WRAM comes first, since most data lies there. Where the address is that of code, the caller has mostly tested it before.
+        if is_in_wram(address) {
+            return self.read_wram(address);
+        }
         if address < 0x4000 {
             return self.banks.read(address);
         }
         if address < 0x8000 {
             return self.banks.read(address);
         }
-        if address >= 0xc000 && address < 0xe000 {
-            return self.wram[usize::from(address) - 0xc000];
-        }
-        if address >= 0xff80 && address < 0xffff {
-            return self.hram[usize::from(address) - 0xff80];
+        if is_in_hram(address) {
+            return self.read_hram(address);
         }
         self.read_place(address)
+    }
+
+    /// Reads two addresses in a row, as a word whose low byte comes first. After FFFF comes 0000.
+    #[inline]
+    pub fn read_word(&self, address: u16) -> u16
+        ensures { result ≡ read_at self.now address + 256 * read_at self.now (address_after address) }
+    {
+        // Most stacks lie in WRAM or HRAM: a word there takes one access of the host.
+        let second = address.wrapping_add(1);
+        if is_in_wram(address) && is_in_wram(second) {
+            return u16::from(self.read_wram(address)) + 256 * u16::from(self.read_wram(second));
+        }
+        if is_in_hram(address) && is_in_hram(second) {
+            return u16::from(self.read_hram(address)) + 256 * u16::from(self.read_hram(second));
+        }
+        self.word_out_of_line(address)
+    }
+
+    #[inline(never)]
+    fn word_out_of_line(&self, address: u16) -> u16
+        ensures { result ≡ read_at self.now address + 256 * read_at self.now (address_after address) }
+    {
+        let low = self.read(address);
+        let high = self.read(address.wrapping_add(1));
+        u16::from(low) + 256 * u16::from(high)
+    }
+
+    #[inline(always)]
+    #[tactic(auto, unfolding(crate::specs::Bus::read_at))]
+    fn read_wram(&self, address: u16) -> u8
+        requires from { 0xc000 ≤ address }
+        requires to { address < 0xe000 }
+        ensures { result ≡ read_at self.now address }
+    {
+        self.wram[usize::from(address) - 0xc000]
+    }
+
+    #[inline(always)]
+    #[tactic(auto, unfolding(crate::specs::Bus::read_at))]
+    fn read_hram(&self, address: u16) -> u8
+        requires from { 0xff80 ≤ address }
+        requires to { address < 0xffff }
+        ensures { result ≡ read_at self.now address }
+    {
+        self.hram[usize::from(address) - 0xff80]
     }
 
     /// Reads three addresses in a row into `bytes`. After FFFF comes 0000.
@@ -221,19 +283,61 @@ impl Bus {
 
     /// Writes to an address. A write to a closed place is ignored.
     #[inline]
-    #[tactic(auto, unfolding(crate::specs::Bus::written))]
     pub fn write(&mut self, address: u16, value: u8)
         ensures { self.new ≡ written address value self.old }
     {
-        if address >= 0xc000 && address < 0xe000 {
-            self.wram[usize::from(address) - 0xc000] = value;
-            return;
+        if is_in_wram(address) {
+            return self.set_wram(address, value);
         }
-        if address >= 0xff80 && address < 0xffff {
-            self.hram[usize::from(address) - 0xff80] = value;
-            return;
+        if is_in_hram(address) {
+            return self.set_hram(address, value);
         }
         self.write_place(address, value);
+    }
+
+    /// Writes the high byte of a word at an address, and then its low byte at the address before it.
+    #[inline]
+    pub fn write_word_down(&mut self, address: u16, word: u16)
+        ensures { self.new ≡ written (address_before address) (word % 256) (written address (word / 256) self.old) }
+    {
+        let second = address.wrapping_sub(1);
+        if is_in_wram(address) && is_in_wram(second) {
+            self.set_wram(address, (word / 256) as u8);
+            return self.set_wram(second, (word % 256) as u8);
+        }
+        if is_in_hram(address) && is_in_hram(second) {
+            self.set_hram(address, (word / 256) as u8);
+            return self.set_hram(second, (word % 256) as u8);
+        }
+        self.write_word_out_of_line(address, word);
+    }
+
+    #[inline(never)]
+    fn write_word_out_of_line(&mut self, address: u16, word: u16)
+        ensures { self.new ≡ written (address_before address) (word % 256) (written address (word / 256) self.old) }
+    {
+        self.write(address, (word / 256) as u8);
+        self.write(address.wrapping_sub(1), (word % 256) as u8);
+    }
+
+    #[inline(always)]
+    #[tactic(auto, unfolding(crate::specs::Bus::written))]
+    fn set_wram(&mut self, address: u16, value: u8)
+        requires from { 0xc000 ≤ address }
+        requires to { address < 0xe000 }
+        ensures { self.new ≡ written address value self.old }
+    {
+        self.wram[usize::from(address) - 0xc000] = value;
+    }
+
+    #[inline(always)]
+    #[tactic(auto, unfolding(crate::specs::Bus::written))]
+    fn set_hram(&mut self, address: u16, value: u8)
+        requires from { 0xff80 ≤ address }
+        requires to { address < 0xffff }
+        ensures { self.new ≡ written address value self.old }
+    {
+        self.hram[usize::from(address) - 0xff80] = value;
     }
 
     #[inline(never)]

@@ -19,6 +19,16 @@ impl Memory for Bus {
     }
 
     #[inline]
+    fn read_word(&self, address: u16) -> u16 {
+        Bus::read_word(self, address)
+    }
+
+    #[inline]
+    fn write_word_down(&mut self, address: u16, word: u16) {
+        Bus::write_word_down(self, address, word);
+    }
+
+    #[inline]
     fn pending_interrupts(&self) -> u8 {
         Bus::pending_interrupts(self)
     }

@@ -1,7 +1,8 @@
 //! What the processor asks of a memory.
 
-ghost use Rattle.std.specs.Prelude.{◌≡◌, ◌<◌};
+ghost use Rattle.std.specs.Prelude.{◌≡◌, ◌+◌, ◌*◌, ◌/◌, ◌%◌};
 ghost use Rattle.sm83_processor.specs.Rules.{Rules};
+ghost use Rattle.sm83_processor.specs.RegisterOperations.{next_address, previous_address};
 
 /// A memory of 65,536 addresses with the interrupt bits, in which time passes.
 ///
@@ -18,6 +19,25 @@ pub trait Memory {
     /// Writes a byte at an address.
     fn write(&mut self, address: u16, value: u8)
         ensures { self.new ≡ rules.written self.old address value };
+
+    /// The word at an address, its low byte first. After FFFF comes 0000.
+    #[inline]
+    fn read_word(&self, address: u16) -> u16
+        ensures { result ≡ rules.value_at self.now address + 256 * rules.value_at self.now (next_address address) }
+    {
+        let low = self.read(address);
+        let high = self.read(address.wrapping_add(1));
+        u16::from(low) + 256 * u16::from(high)
+    }
+
+    /// Writes a word downwards: its high byte at an address, and then its low byte at the address before it.
+    #[inline]
+    fn write_word_down(&mut self, address: u16, word: u16)
+        ensures { self.new ≡ rules.written (rules.written self.old address (word / 256)) (previous_address address) (word % 256) }
+    {
+        self.write(address, (word / 256) as u8);
+        self.write(address.wrapping_sub(1), (word % 256) as u8);
+    }
 
     /// The bits that IE and IF share, of the low five: VBlank 0, STAT 1, timer 2, serial 3, joypad
     /// 4.

@@ -71,26 +71,24 @@ impl<M: Memory> Processor<M> {
         }
     }
 
+    #[inline]
     pub(crate) fn push(&mut self, word: u16)
         ensures { self.new ≡ pushed M.rules word self.old }
     {
         let first = self.registers.sp.wrapping_sub(1);
-        let second = first.wrapping_sub(1);
-        self.memory.write(first, (word / 256) as u8);
-        self.memory.write(second, (word % 256) as u8);
-        self.registers.sp = second;
+        self.memory.write_word_down(first, word);
+        self.registers.sp = first.wrapping_sub(1);
     }
 
+    #[inline]
     pub(crate) fn pop(&mut self) -> u16
         ensures word { result ≡ popped_word M.rules self.old }
         ensures rest { self.new ≡ popped self.old }
     {
         let first = self.registers.sp;
-        let second = first.wrapping_add(1);
-        let low = self.memory.read(first);
-        let high = self.memory.read(second);
-        self.registers.sp = second.wrapping_add(1);
-        u16::from(low) + 256 * u16::from(high)
+        let word = self.memory.read_word(first);
+        self.registers.sp = first.wrapping_add(1).wrapping_add(1);
+        word
     }
 
     #[inline(always)]
