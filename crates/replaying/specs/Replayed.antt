@@ -7,7 +7,7 @@ use Rattle.session.specs.Inputs.{inputs_of}
 use Rattle.replaying.specs.declared.error.VerifyError.{VerifyError}
 use Rattle.replaying.specs.declared.error.VerifyError.TheVariants.{Save, Recording, Behind, Ahead, Memory, Differ}
 use Rattle.replaying.specs.declared.verifying.Limits.{Limits}
-use Rattle.replaying.specs.Within.{IsBeyond, LeadsUpTo}
+use Rattle.replaying.specs.Within.{AreCompared, IsBeyond, LeadsUpTo}
 
 -- it was given some inputs
 pub record HasPlayed (old now : MachineState) : Type 0 where
@@ -36,12 +36,13 @@ IsCompareCause rom entries count machine (Save why) = ⊥
 IsCompareCause rom entries count machine (Recording why) = why ≡ Device
 IsCompareCause rom entries count machine (Behind recorded) = (recorded ≡ length entries) × (recorded < count)
 IsCompareCause rom entries count machine (Ahead recorded) = ⊥
-IsCompareCause rom entries count machine Memory = ⊤
+IsCompareCause rom entries count machine Memory = AreCompared None (length entries) count
 IsCompareCause rom entries count machine Differ = (count ≤ length entries) × (machine ≢ after (start rom) (inputs_of (take count entries)))
 
 -- or, within limits, to be too far beyond it
 abbrev pub IsCompareCauseWithin : (limits : Option Limits) → (rom : List ℕ) → (entries : List Entry) → (count : ℕ) → MachineState → VerifyError → Type 0
 IsCompareCauseWithin limits rom entries count machine (Ahead recorded) = (recorded ≡ length entries) × IsBeyond limits recorded count
+IsCompareCauseWithin limits rom entries count machine Memory = AreCompared limits (length entries) count
 IsCompareCauseWithin limits rom entries count machine why = IsCompareCause rom entries count machine why
 
 -- and it is no refusal of the look, and none of limits where there are none

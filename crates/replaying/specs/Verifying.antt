@@ -1,19 +1,21 @@
 -- Whether a SAVE and a recording agree, as `verify` answers it.
-use Rattle.std.specs.Prelude.{◌≡◌, ◌≢◌, ◌≤◌, ◌<◌, ℕ, List, length, take, Option, None, Some, ⊤}
+use Rattle.std.specs.Prelude.{◌≡◌, ◌≢◌, ◌⊎◌, ◌≤◌, ◌<◌, ℕ, List, length, take, Option, None, Some, ⊤}
 use Rattle.sha2.specs.Sha256.{sha256}
 use Rattle.machine.specs.Machine.{after, start}
 use Rattle.sector_device.specs.DiskState.{DiskState}
 use Rattle.input_entries.specs.declared.Entry.{Entry}
 use Rattle.recording.specs.Calls.{IsOpenCause, faults_after as faults_after_recording}
 use Rattle.recording.specs.Recorded.{recorded}
+use Rattle.recording.specs.declared.fault.RecordingFault.TheVariants.{Memory as NoMemoryOfRecording}
 use Rattle.log_format.specs.Content.{content}
-use Rattle.session.specs.Calls.{faults_after as faults_after_session}
+use Rattle.session.specs.Calls.{CanBeLookedAt, faults_after as faults_after_session}
 use Rattle.session.specs.Found.{IsLookCause}
 use Rattle.session.specs.Inputs.{inputs_of}
 use Rattle.session.specs.Stands.{Position, stands}
-use Rattle.session.specs.declared.error.SessionError.TheVariants.{Output}
+use Rattle.session.specs.declared.error.SessionError.TheVariants.{Memory as NoMemory, Output}
+use Rattle.playing.specs.Played.{IsAsItWas}
 use Rattle.replaying.specs.Agreeing.{IsRecorded}
-use Rattle.replaying.specs.Within.{IsBeyond, LeadsUpTo}
+use Rattle.replaying.specs.Within.{AreCompared, IsBeyond, LeadsUpTo}
 use Rattle.replaying.specs.declared.error.VerifyError.{VerifyError}
 use Rattle.replaying.specs.declared.error.VerifyError.TheVariants.{Save, Recording, Behind, Ahead, Memory, Differ}
 use Rattle.replaying.specs.declared.verifying.Limits.{Limits}
@@ -40,15 +42,22 @@ IsVerifiedWithin None rom save recording count = IsVerified rom save recording c
 IsVerifiedWithin (Some limits) rom save recording count =
     AreFound rom save recording (λ at entries. (at.count ≡ count) × LeadsUpTo limits rom entries at.count at.machine)
 
--- why a SAVE is not verified; nothing is said of running out of memory
+-- why a SAVE is not verified; `IsWhereMemoryLacks` says more of running out of memory for a look or a recording
 abbrev pub IsVerifyCause : (limits : Option Limits) → (rom : List ℕ) → (save recording : DiskState) → VerifyError → Type 0
 IsVerifyCause limits rom save recording (Save why) = IsLookCause rom (content save.sectors) why
 IsVerifyCause limits rom save recording (Recording why) = ((at : Position) × (stands rom (content save.sectors) ≡ Some at)) × IsOpenCause why (sha256 rom) recording
 IsVerifyCause limits rom save recording (Behind count) = AreFound rom save.sectors recording.sectors (λ at entries. (count ≡ length entries) × (count < at.count))
 IsVerifyCause limits rom save recording (Ahead count) = AreFound rom save.sectors recording.sectors (λ at entries. (count ≡ length entries) × IsBeyond limits count at.count)
-IsVerifyCause limits rom save recording Memory = ⊤
+IsVerifyCause limits rom save recording Memory = AreFound rom save.sectors recording.sectors (λ at entries. AreCompared limits (length entries) at.count)
 IsVerifyCause limits rom save recording Differ =
     AreFound rom save.sectors recording.sectors (λ at entries. (at.count ≤ length entries) × (at.machine ≢ after (start rom) (inputs_of (take at.count entries))))
+
+-- Where memory was refused to the look at the SAVE, no call was made of its device, or it can be looked at; where it was refused to what
+-- opens the recording, it can; and no call was made of the recording's device.
+abbrev pub IsWhereMemoryLacks : VerifyError → (rom : List ℕ) → (save now_save recording now_recording : DiskState) → Type 0
+IsWhereMemoryLacks (Save NoMemory) rom save now_save recording now_recording = (IsAsItWas save now_save ⊎ (save.honest → CanBeLookedAt rom save)) × IsAsItWas recording now_recording
+IsWhereMemoryLacks (Recording NoMemoryOfRecording) rom save now_save recording now_recording = recording.honest → (save.honest → CanBeLookedAt rom save) × IsAsItWas recording now_recording
+IsWhereMemoryLacks why rom save now_save recording now_recording = ⊤
 
 -- a recording is ahead only where there are limits; and no report is written, so that none fails
 abbrev pub IsOfVerifying : (limits : Option Limits) → VerifyError → Type 0

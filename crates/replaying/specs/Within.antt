@@ -12,6 +12,11 @@ pub record LeadsUpTo (limits : Limits) (rom : List ℕ) (entries : List Entry) (
   pub near : length entries ≤ count + limits.beyond
   pub machine_is : count ≤ limits.replayed → machine ≡ after (start rom) (inputs_of (take count entries))
 
+-- the machine is compared of a SAVE with so many inputs, where the recording has so many
+abbrev pub AreCompared : (limits : Option Limits) → (recorded count : ℕ) → Type 0
+AreCompared None recorded count = count ≤ recorded
+AreCompared (Some limits) recorded count = (count ≤ recorded) × (recorded ≤ count + limits.beyond) × (count ≤ limits.replayed)
+
 -- the recording has so many inputs, more than it may have beyond so many
 abbrev pub IsBeyond : (limits : Option Limits) → (recorded count : ℕ) → Type 0
 IsBeyond None recorded count = ⊥

@@ -14,7 +14,7 @@ ghost use Rattle.session.specs.Inputs.{inputs_of};
 ghost use Rattle.session.specs.Resting.{IsOfItsRom};
 ghost use Rattle.session.specs.LookAccessors.{machine_of_look, count_of_look};
 ghost use Rattle.replaying.specs.Replayed.{LeadsTo, LeadsWithin, IsCompareCause, IsCompareCauseWithin, IsOfComparing};
-ghost use Rattle.replaying.specs.Verifying.{IsVerifiedWithin, IsVerifyCause, IsOfVerifying, save_faults_after, recording_faults_after};
+ghost use Rattle.replaying.specs.Verifying.{IsVerifiedWithin, IsVerifyCause, IsOfVerifying, IsWhereMemoryLacks, save_faults_after, recording_faults_after};
 
 use crate::error::VerifyError;
 use crate::replay::replay;
@@ -191,6 +191,8 @@ pub fn verify<S: SectorDevice, D: SectorDevice>(
     ensures cause { IfErr result.answer (λ why. (S.disk save).honest → (D.disk recording).honest →
         IsVerifyCause limits cartridge.now (S.disk save) (D.disk recording) why) }
     ensures kind { IfErr result.answer (IsOfVerifying limits) }
+    ensures memory { IfErr result.answer (λ why. IsWhereMemoryLacks why cartridge.now (S.disk save) (S.disk result.save)
+        (D.disk recording) (D.disk result.recording)) }
     ensures looked_save { (S.disk save).honest → HasLooked (S.disk save) (S.disk result.save) }
     ensures looked_recording { (D.disk recording).honest → HasLooked (D.disk recording) (D.disk result.recording) }
     ensures answered_save { HasAnswered save_faults_after (S.disk save) (S.disk result.save) result.answer }

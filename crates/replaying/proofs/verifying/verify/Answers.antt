@@ -4,6 +4,7 @@ use Rattle.sector_device.specs.Looking.{HasLooked}
 use Rattle.sector_device.proofs.Looking.{has_looked, looked_then}
 use Rattle.input_entries.specs.Inputs.{inputs}
 use Rattle.recording.specs.Calls.{IsOpenCause}
+use Rattle.recording.specs.Accessors.{device_of}
 use Rattle.recording.specs.Recorded.{entries, recorded}
 use Rattle.session.specs.Stands.{Position}
 use Rattle.session.specs.LookAccessors.{machine_of_look, count_of_look}
@@ -12,7 +13,7 @@ use Rattle.session.proofs.Beginnings.{if_ok_both, if_err}
 use Rattle.replaying.specs.Replayed.{LeadsWithin, IsCompareCauseWithin}
 use Rattle.replaying.specs.Verifying.{save_faults_after, recording_faults_after}
 use Rattle.replaying.proofs.Looking.{looks_only}
-use Rattle.replaying.proofs.Verdicts.{verified, compare_cause, answered_save, of_verifying}
+use Rattle.replaying.proofs.Verdicts.{verified, compare_cause, answered_save, of_verifying, look_lacks, open_lacks, compared_lacks}
 use Rattle.replaying.proofs.verifying.verify.Goals as goal
 
 pub returns-in-Err-open_recording-clause-cause : goal.returns-in-Err-open_recording-clause-cause
@@ -20,6 +21,17 @@ returns-in-Err-open_recording-clause-cause g c = λ save_honest honest. (
   (record { count = count_of_look c.in-Ok.look; machine = machine_of_look c.in-Ok.look }, c.in-Ok.ensures.stands save_honest),
   subst (λ (id : List ℕ). IsOpenCause c.in-Err-open_recording.refused.why id (g.D.SectorDevice.disk c.args.recording)) c.digest.ensures c.in-Err-open_recording.ensures.cause,
 )
+
+pub returns-in-Err-clause-memory : goal.returns-in-Err-clause-memory
+returns-in-Err-clause-memory g c = look_lacks g.S.SectorDevice.disk (g.D.SectorDevice.disk c.args.recording) c.in-Err.refused.why c.in-Err.ensures.memory
+
+pub returns-in-Err-open_recording-clause-memory : goal.returns-in-Err-open_recording-clause-memory
+returns-in-Err-open_recording-clause-memory g c = open_lacks g.D.SectorDevice.disk c.args.cartridge.now (g.S.SectorDevice.disk c.args.save) _ c.in-Err-open_recording.refused.why c.in-Err-open_recording.ensures.memory c.in-Ok.ensures.stands
+
+pub returns-clause-memory : goal.returns-clause-memory
+returns-clause-memory g c =
+    let opened = g.D.SectorDevice.disk (device_of c.in-Ok-open_recording.recording) in
+    compared_lacks c.args.cartridge.now (g.S.SectorDevice.disk c.args.save) _ (g.D.SectorDevice.disk c.args.recording) _ opened (inputs (entries opened.sectors)) (count_of_look c.in-Ok.look) (machine_of_look c.in-Ok.look) c.args.limits c.compare_within-answer.result c.compare_within-answer.ensures.kind c.compare_within-answer.ensures.cause c.in-Ok-open_recording.ensures.answered.honest.1
 
 pub returns-clause-ok : goal.returns-clause-ok
 returns-clause-ok g c =
