@@ -111,7 +111,7 @@ def bodies_of(texts):
 def answered(bodies, name, around=()):
     """The refusals that a body names, and those that it calls in its crate, as they come."""
     order = []
-    for one, plain, call in re.findall(r'\b\w+(?:Error|Fault)::([A-Z]\w+)|\b(OutputFailed|AllocError)\b|(?<!::)\b(\w+)(?:::<[^>]*>)?\(', bodies.get(name, '')):
+    for one, plain, call in re.findall(r'\b(?:\w+(?:Error|Fault)|Refusal)::([A-Z]\w+)|\b(OutputFailed|AllocError)\b|(?<!::)\b(\w+)(?:::<[^>]*>)?\(', bodies.get(name, '')):
         more = [one or plain] if one or plain else answered(bodies, call, (*around, name)) if call in bodies and call not in (*around, name) else []
         order += [each for each in more if each not in order]
     return order
@@ -144,6 +144,9 @@ class Call:
         # what a clause excludes by its name
         excluded = {name for _, name in re.findall(r'\{ IfErr result \(λ (\w+)\. \1(?:\.why)? ≢ (?:\w+\.)?([A-Z]\w+)\) \}', contract)}
         self.can = self.can and self.can - excluded
+        # the only one that a clause leaves
+        alone = re.findall(r'\{ IfErr result \(λ (\w+)\. \1 ≡ (?:\w+\.)?([A-Z]\w+)\) \}', contract)
+        self.can = {name for _, name in alone} if self.can is None and alone else self.can
         own = name.rpartition('::')[2]
         self.order = [one for one in answered(bodies, own) if one in (self.can or self.variants)]
         self.calls = calls_of(bodies, own)

@@ -7,8 +7,8 @@ use Rattle.bank_controllers.specs.declared.clock.ClockRegisters.{ClockRegisters}
 use Rattle.machine.specs.Machine.{MachineState, start, with_clocks, with_ram}
 use Rattle.snapshot.specs.Table.{kind_of_image}
 use Rattle.battery_files.specs.Battery.{has_clock}
-use Rattle.battery_files.specs.declared.error.ImportError.{ImportError}
-use Rattle.battery_files.specs.declared.error.ImportError.TheVariants.{NoBattery, Length, Memory}
+use Rattle.refusals.specs.declared.refusal.Refusal.{Refusal}
+use Rattle.refusals.specs.declared.refusal.Refusal.TheVariants.{NoBattery, BatteryLength, Memory}
 
 -- The lengths that are taken: as many bytes as the RAM has; with a clock also 48 more, or 44 where the time of writing has four bytes.
 abbrev pub is_taken_length : (rom : List ℕ) → ℕ → Bool
@@ -51,8 +51,9 @@ start_with rom battery =
     else start_with_ram rom battery
 
 -- why a file is not taken: a cartridge without battery; another length; and want of memory only where neither holds
-abbrev pub IsImportCause : (rom battery : List ℕ) → ImportError → Type 0
+abbrev pub IsImportCause : (rom battery : List ℕ) → Refusal → Type 0
 IsImportCause rom battery NoBattery = has_battery rom ≡ false
-IsImportCause rom battery (Length found needed) =
+IsImportCause rom battery (BatteryLength found needed) =
     (has_battery rom ≡ true) × (is_taken_length rom (length battery) ≡ false) × (found ≡ length battery) × (needed ≡ ram_length_of rom)
 IsImportCause rom battery Memory = (has_battery rom ≡ true) × (is_taken_length rom (length battery) ≡ true)
+IsImportCause rom battery why = ⊥

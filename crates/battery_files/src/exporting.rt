@@ -9,8 +9,8 @@ ghost use Rattle.session.specs.Calls.{CanBeLookedAt};
 ghost use Rattle.battery_files.specs.Exporting.{IsExportCause, IsExported, IsUntouchedBy, faults_after_export, left_by};
 
 use crate::battery::battery_of;
-use crate::error::ExportError;
 use cartridge::Cartridge;
+use refusals::Refusal;
 use sector_device::{Refused, SectorDevice};
 use session::{SessionError, look_at};
 use std::alloc::Global;
@@ -33,7 +33,7 @@ pub fn export_battery<D: SectorDevice>(
     alloc: Global,
     device: D,
     rom: Vec<u8>,
-) -> Result<Exported<D>, Refused<ExportError, D>>
+) -> Result<Exported<D>, Refused<Refusal, D>>
     ensures accepted { OnOk result (IsAccepted rom.items) }
     ensures battery { OnOk result (has_battery rom.items ≡ true) }
     ensures exported { IfOk result (λ exported. (D.disk device).honest →
@@ -42,7 +42,7 @@ pub fn export_battery<D: SectorDevice>(
     ensures cause { IfErr result (λ refused. IsExportCause rom.items (D.disk device) refused.why) }
     ensures untouched { IfErr result (λ refused. IsUntouchedBy refused.why device refused.device) }
     ensures memory { IfErr result (λ refused.
-        refused.why ≡ ExportError.Session SessionError.Memory → (refused.device ≡ device) ⊎
+        refused.why ≡ Refusal.Session SessionError.Memory → (refused.device ≡ device) ⊎
         ((D.disk device).honest → CanBeLookedAt rom.items (D.disk device))) }
     ensures answered { HasAnswered (λ refused. faults_after_export refused.why) (D.disk device)
         (D.disk (left_by result)) result }
@@ -50,20 +50,20 @@ pub fn export_battery<D: SectorDevice>(
     let cartridge = match Cartridge::read(rom) {
         Ok(cartridge) => cartridge,
         Err(fault) => return Err(Refused {
-            why: ExportError::Cart(fault),
+            why: Refusal::Cart(fault),
             device,
         }),
     };
     if !cartridge.has_battery() {
         return Err(Refused {
-            why: ExportError::NoBattery,
+            why: Refusal::NoBattery,
             device,
         });
     }
     let look = match look_at(alloc, device, &cartridge) {
         Ok(look) => look,
         Err(refused) => return Err(Refused {
-            why: ExportError::Session(refused.why),
+            why: Refusal::Session(refused.why),
             device: refused.device,
         }),
     };
@@ -75,7 +75,7 @@ pub fn export_battery<D: SectorDevice>(
             device: look.into_device(),
         }),
         Err(_) => Err(Refused {
-            why: ExportError::Session(SessionError::Memory),
+            why: Refusal::Session(SessionError::Memory),
             device: look.into_device(),
         }),
     }

@@ -10,10 +10,10 @@ ghost use Rattle.battery_files.specs.Battery.{has_clock};
 ghost use Rattle.battery_files.specs.Importing.{IsImportCause, clock_in, is_taken_length, kept_by, ram_in, start_with, start_with_ram};
 
 use crate::battery::{CLOCK_LENGTH, has_clock};
-use crate::error::ImportError;
 use bank_controllers::ClockRegisters;
 use cartridge::{Cartridge, Controller};
 use machine::{Machine, Region};
+use refusals::Refusal;
 use snapshot::set_clocks;
 use std::alloc::{AllocError, Global};
 
@@ -34,7 +34,7 @@ fn is_taken_length(cartridge: &Cartridge, size: usize) -> bool
 }
 
 /// Why a file of so many bytes is not taken for this cartridge.
-fn refusal(cartridge: &Cartridge, battery: &[u8]) -> Option<ImportError>
+fn refusal(cartridge: &Cartridge, battery: &[u8]) -> Option<Refusal>
     ensures none { IfNone result ((has_battery cartridge.now ≡ true) ×
         (is_taken_length cartridge.now (length battery.now) ≡ true)) }
     ensures some { IfSome result (IsImportCause cartridge.now battery.now) }
@@ -43,10 +43,10 @@ fn refusal(cartridge: &Cartridge, battery: &[u8]) -> Option<ImportError>
     // its contract says that the image is an accepted one
     let _ = cartridge.rom();
     if !cartridge.has_battery() {
-        return Some(ImportError::NoBattery);
+        return Some(Refusal::NoBattery);
     }
     if !is_taken_length(cartridge, battery.len()) {
-        return Some(ImportError::Length {
+        return Some(Refusal::BatteryLength {
             found: battery.len() as u64,
             needed: cartridge.ram_length() as u64,
         });
@@ -125,7 +125,7 @@ pub fn machine_with_battery(
     alloc: Global,
     cartridge: &Cartridge,
     battery: &[u8],
-) -> Result<Machine, ImportError>
+) -> Result<Machine, Refusal>
     ensures taken { IfOk result (λ m.
         (has_battery cartridge.now ≡ true) × (is_taken_length cartridge.now (length battery.now) ≡ true)) }
     ensures machine { IfOk result (λ m. m ≡ start_with cartridge.now battery.now) }
@@ -136,7 +136,7 @@ pub fn machine_with_battery(
         return Err(why);
     }
     let Ok(mut machine) = machine_with_ram(alloc, cartridge, battery) else {
-        return Err(ImportError::Memory);
+        return Err(Refusal::Memory);
     };
     let ram = cartridge.ram_length();
     if battery.len() <= ram {

@@ -4,13 +4,11 @@
 #![tactic(auto)]
 
 mod battery;
-mod error;
 mod exporting;
 mod importing;
 mod laws;
 
 pub use battery::{battery_length, battery_of, has_clock};
-pub use error::{ExportError, ImportError};
 pub use exporting::{Exported, export_battery};
 pub use importing::machine_with_battery;
 pub use laws::{

@@ -4,7 +4,8 @@ use Rattle.memory_map.specs.State.{BusState}
 use Rattle.memory_map.specs.Stores.{region_of}
 use Rattle.memory_map.specs.declared.region.Region.{Region}
 use Rattle.memory_map.specs.declared.region.Region.TheVariants.{Vram, Wram, Oam, Hram, CartRam}
-use Rattle.c_interface.specs.Codes.{done, wrong_length}
+use Rattle.refusals.specs.Codes.{done}
+use Rattle.c_interface.specs.Codes.{wrong_length}
 
 abbrev pub region_at : ℕ → Option Region
 region_at which = if which == 0 then Some Vram else (if which == 1 then Some Wram else (if which == 2 then Some Oam else

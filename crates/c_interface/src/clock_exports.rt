@@ -3,7 +3,8 @@
 ghost use Rattle.std.specs.Prelude.{◌≡◌, ◌<◌, ◌≤◌, ◌⊎◌, ◌∷◌, [], length, take, slice_get};
 ghost use Rattle.cartridge_clock.specs.Clocks.{opened, due_at, claim_of, claiming, claimed_by, to_give, giving, note_of, noted_by, gone_back};
 ghost use Rattle.cartridge_clock.specs.Texts.{text_of};
-ghost use Rattle.c_interface.specs.Codes.{done, no_time};
+ghost use Rattle.refusals.specs.Codes.{done};
+ghost use Rattle.c_interface.specs.Codes.{no_time};
 ghost use Rattle.c_interface.specs.Clocks.{line_of, clock_of, answer_of, away_kind, away_seconds, played_kind, found_of, IsRead, IsToWrite};
 
 use crate::codes::{DONE, NO_TIME};

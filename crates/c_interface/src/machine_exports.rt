@@ -6,9 +6,10 @@ ghost use Rattle.machine.specs.Machine.{Frame};
 ghost use Rattle.snapshot.specs.Legal.{IsMachineOf};
 ghost use Rattle.state_header.specs.States.{state_length, state_of};
 ghost use Rattle.embedding.specs.Orders.{shades_of, bytes_from};
-ghost use Rattle.c_interface.specs.Codes.{done, IsMadeCode, IsRestoredCode, no_memory};
+ghost use Rattle.refusals.specs.Codes.{done};
+ghost use Rattle.c_interface.specs.Codes.{IsMadeCode, IsRestoredCode, no_memory};
 
-use crate::codes::{DONE, NO_MEMORY, console_code};
+use crate::codes::{DONE, NO_MEMORY};
 use crate::machine_handle::MachineHandle;
 use embedding::Console;
 use std::alloc::Global;
@@ -24,7 +25,7 @@ pub extern "C" fn gbkeep_raw_machine_new(alloc: Global, rom: &[u8], out: &mut Ma
 {
     let console = match Console::new(alloc, rom) {
         Ok(console) => console,
-        Err(why) => return console_code(why),
+        Err(why) => return why.code(),
     };
     let Ok(held) = Box::new(alloc, console) else {
         return NO_MEMORY;
@@ -172,7 +173,7 @@ pub extern "C" fn gbkeep_raw_machine_restore(
     let mut console = machine.into_box();
     let code = match console.restore(bytes) {
         Ok(()) => DONE,
-        Err(why) => console_code(why),
+        Err(why) => why.code(),
     };
     *out = MachineHandle::of(console);
     code

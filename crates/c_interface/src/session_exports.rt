@@ -20,12 +20,14 @@ ghost use Rattle.embedding.specs.Calls.{image_calls};
 ghost use Rattle.embedding.specs.HostDevices.{HasHandedOut, calls_of, count_of, handed_of, host_disk};
 ghost use Rattle.embedding.specs.declared.host_device.Call.TheVariants.{Write, Sync};
 ghost use Rattle.c_interface.specs.Memories.{region_at, IsCopied, IsRegionAnswer};
-ghost use Rattle.c_interface.specs.Codes.{done, answer_code, no_call, a_write, a_sync, IsBatteryCode, IsBegunCode, IsImportedCode, IsNeededCode, IsPowerCode, IsSaveCode, IsStateCode, IsTakenUpCode};
+ghost use Rattle.refusals.specs.Codes.{done};
+ghost use Rattle.c_interface.specs.Codes.{answer_code, no_call, a_write, a_sync, IsBatteryCode, IsBegunCode, IsImportedCode, IsNeededCode, IsPowerCode, IsSaveCode, IsStateCode, IsTakenUpCode};
 
-use crate::codes::{DONE, NO_MEMORY, WRONG_LENGTH, game_code, session_code};
+use crate::codes::{DONE, NO_MEMORY, WRONG_LENGTH};
 use crate::session_handle::SessionHandle;
 use embedding::{Call, Game, sectors_of};
 use machine::{Input, Region};
+use refusals::Refusal;
 use std::alloc::Global;
 
 /// The kind of a call that there is not.
@@ -63,7 +65,7 @@ pub extern "C" fn gbkeep_raw_session_sectors(alloc: Global, rom: &[u8], sectors:
             *sectors = needed;
             DONE
         }
-        Err(why) => game_code(why),
+        Err(why) => why.code(),
     }
 }
 
@@ -91,7 +93,7 @@ pub extern "C" fn gbkeep_raw_session_begin(
 {
     let game = match Game::begin(alloc, rom, sectors) {
         Ok(game) => game,
-        Err(why) => return game_code(why),
+        Err(why) => return why.code(),
     };
     let Ok(held) = Box::new(alloc, game) else {
         return NO_MEMORY;
@@ -127,7 +129,7 @@ pub extern "C" fn gbkeep_raw_session_import(
 {
     let game = match Game::import(alloc, rom, battery, sectors) {
         Ok(game) => game,
-        Err(why) => return game_code(why),
+        Err(why) => return why.code(),
     };
     let Ok(held) = Box::new(alloc, game) else {
         return NO_MEMORY;
@@ -163,7 +165,7 @@ pub extern "C" fn gbkeep_raw_session_resume(
 {
     let game = match Game::resume(alloc, rom, image) {
         Ok(game) => game,
-        Err(why) => return game_code(why),
+        Err(why) => return why.code(),
     };
     let Ok(held) = Box::new(alloc, game) else {
         return NO_MEMORY;
@@ -202,7 +204,7 @@ pub extern "C" fn gbkeep_raw_session_frame(
     let mut game = session.into_box();
     let code = match game.input(Input::Frame(buttons)) {
         Ok(()) => DONE,
-        Err(why) => session_code(why),
+        Err(why) => Refusal::Session(why).code(),
     };
     *out = SessionHandle::of(game);
     code
@@ -230,7 +232,7 @@ pub extern "C" fn gbkeep_raw_session_seconds(
     let mut game = session.into_box();
     let code = match game.input(Input::Seconds(seconds)) {
         Ok(()) => DONE,
-        Err(why) => session_code(why),
+        Err(why) => Refusal::Session(why).code(),
     };
     *out = SessionHandle::of(game);
     code
@@ -258,7 +260,7 @@ pub extern "C" fn gbkeep_raw_session_power(
     let mut game = session.into_box();
     let code = match game.power(alloc) {
         Ok(()) => DONE,
-        Err(why) => session_code(why),
+        Err(why) => Refusal::Session(why).code(),
     };
     *out = SessionHandle::of(game);
     code
@@ -286,7 +288,7 @@ pub extern "C" fn gbkeep_raw_session_restore(
     let mut game = session.into_box();
     let code = match game.restore(bytes) {
         Ok(()) => DONE,
-        Err(why) => session_code(why),
+        Err(why) => Refusal::Session(why).code(),
     };
     *out = SessionHandle::of(game);
     code
@@ -338,7 +340,7 @@ pub extern "C" fn gbkeep_raw_session_save(
             *saved = all;
             DONE
         }
-        Err(why) => session_code(why),
+        Err(why) => Refusal::Session(why).code(),
     };
     *out = SessionHandle::of(game);
     code
@@ -546,7 +548,7 @@ pub extern "C" fn gbkeep_raw_session_battery(
     let game = session.into_box();
     let code = match game.battery(alloc, bytes) {
         Ok(()) => DONE,
-        Err(why) => game_code(why),
+        Err(why) => why.code(),
     };
     *out = SessionHandle::of(game);
     code

@@ -1,3 +1,4 @@
 pub mod Counting
 pub mod Noting
 pub mod StateAnswers
+pub mod Taking

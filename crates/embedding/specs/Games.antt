@@ -11,13 +11,14 @@ use Rattle.session.specs.Calls.{IsSaveCause as IsSessionSaveCause, fits_log}
 use Rattle.session.specs.Found.{IsNewGameCause, IsResumeCause}
 use Rattle.session.specs.declared.error.SessionError.{SessionError}
 use Rattle.session.specs.declared.session.Session as TheSession
-use Rattle.session.specs.declared.error.SessionError.TheVariants.{Device, Memory as NoMemory}
+use Rattle.session.specs.declared.error.SessionError.TheVariants.{Device as FailedDevice, Memory as NoMemory}
+use Rattle.sector_device.specs.declared.device.DeviceFault.TheVariants.{SizeNotSectors}
 use Rattle.session.specs.Stands.{stands}
 use Rattle.snapshot.specs.Encoding.{snapshot_length}
 use Rattle.battery_files.specs.Importing.{is_taken_length}
 use Rattle.embedding.specs.HostDevices.{host_disk}
-use Rattle.embedding.specs.declared.error.GameError.{GameError}
-use Rattle.embedding.specs.declared.error.GameError.TheVariants.{Memory, Cart, NoBattery, BatteryLength, Size, Session}
+use Rattle.refusals.specs.declared.refusal.Refusal.{Refusal}
+use Rattle.refusals.specs.declared.refusal.Refusal.TheVariants.{Memory, Cart, NoBattery, BatteryLength, Device, Session}
 use Rattle.embedding.specs.declared.host_device.HostDevice.{HostDevice}
 
 -- these sectors are the bytes of an image, 512 each
@@ -34,14 +35,14 @@ pub record IsFrom (rom image : List ℕ) (count : ℕ) (machine : MachineState) 
 -- ---- refusals
 
 -- why an image gives no cartridge: the first rule that it breaks, or want of memory
-abbrev pub IsCartCause : (rom : List ℕ) → GameError → Type 0
+abbrev pub IsCartCause : (rom : List ℕ) → Refusal → Type 0
 IsCartCause rom Memory = ⊤
 IsCartCause rom (Cart fault) = refusal_of rom ≡ Some fault
 IsCartCause rom why = ⊥
 
 -- Why no game begins at power-on on a device of so many sectors: the first rule of a cartridge that the image breaks; why no new game begins.
 -- Nothing is said of running out of memory.
-abbrev pub IsBeginCause : (rom : List ℕ) → (sectors : ℕ) → GameError → Type 0
+abbrev pub IsBeginCause : (rom : List ℕ) → (sectors : ℕ) → Refusal → Type 0
 IsBeginCause rom sectors Memory = ⊤
 IsBeginCause rom sectors (Cart fault) = refusal_of rom ≡ Some fault
 IsBeginCause rom sectors (Session why) = IsAccepted rom × IsNewGameCause (snapshot_length (ram_length_of rom)) sectors why
@@ -55,9 +56,9 @@ pub record IsRefusedFrom (rom image : List ℕ) (why : SessionError) : Type 0 wh
 
 -- Why no game is taken up from an image: it is not whole sectors; the first rule of a cartridge that the ROM breaks; why its sectors are not
 -- taken up. Nothing is said of running out of memory.
-abbrev pub IsTakeUpCause : (rom image : List ℕ) → GameError → Type 0
+abbrev pub IsTakeUpCause : (rom image : List ℕ) → Refusal → Type 0
 IsTakeUpCause rom image Memory = ⊤
-IsTakeUpCause rom image (Size bytes) = (bytes ≡ length image) × (length image % 512 ≢ 0)
+IsTakeUpCause rom image (Device (SizeNotSectors bytes)) = (bytes ≡ length image) × (length image % 512 ≢ 0)
 IsTakeUpCause rom image (Cart fault) = (length image % 512 ≡ 0) × (refusal_of rom ≡ Some fault)
 IsTakeUpCause rom image (Session why) = IsAccepted rom × IsRefusedFrom rom image why
 IsTakeUpCause rom image why = ⊥
@@ -68,14 +69,14 @@ IsTaken rom battery = IsAccepted rom × (has_battery rom ≡ true) × (is_taken_
 
 -- Why no game begins with a battery file on a device of so many sectors: the first rule of a cartridge that the image breaks; a cartridge
 -- without battery; a file of another length; why no new game begins. Nothing is said of running out of memory.
-abbrev pub IsImportCause : (rom battery : List ℕ) → (sectors : ℕ) → GameError → Type 0
+abbrev pub IsImportCause : (rom battery : List ℕ) → (sectors : ℕ) → Refusal → Type 0
 IsImportCause rom battery sectors Memory = ⊤
 IsImportCause rom battery sectors (Cart fault) = refusal_of rom ≡ Some fault
 IsImportCause rom battery sectors NoBattery = IsAccepted rom × (has_battery rom ≡ false)
 IsImportCause rom battery sectors (BatteryLength found needed) =
     IsAccepted rom × (has_battery rom ≡ true) × (is_taken_length rom (length battery) ≡ false) × (found ≡ length battery) × (needed ≡ ram_length_of rom)
-IsImportCause rom battery sectors (Size bytes) = ⊥
 IsImportCause rom battery sectors (Session why) = IsTaken rom battery × IsNewGameCause (snapshot_length (ram_length_of rom)) sectors why
+IsImportCause rom battery sectors why = ⊥
 
 module _ {disk : Ghosts HostDevice} where
   -- Why no save is told: why the session does not save; `Device` stands for one more call of the device that failed, for want of memory for its
@@ -83,7 +84,7 @@ module _ {disk : Ghosts HostDevice} where
   abbrev pub IsSaveCause : (old new : TheSession.Session HostDevice disk) → SessionError → Type 0
   IsSaveCause old new why =
       IsSessionSaveCause why (is_broken old) (fits_log (log_in old) (pending_of old)) (generation_in_use old)
-      × (why ≡ Device → (host_disk (device_of new)).faults ≡ next_count (host_disk (device_of old)).faults)
+      × (why ≡ FailedDevice → (host_disk (device_of new)).faults ≡ next_count (host_disk (device_of old)).faults)
 
   -- as many inputs, of which those are not acknowledged that were not, or none
   abbrev pub KeepsInputs : (old new : TheSession.Session HostDevice disk) → Type 0
@@ -96,7 +97,7 @@ abbrev pub IsPowerAnswer : (taken answer : Result Unit SessionError) → Type 0
 IsPowerAnswer taken answer = (answer ≡ taken) ⊎ ((answer ≡ Err NoMemory) × (taken ≡ Ok tt))
 
 -- why a game gives no battery file: a cartridge without battery; and want of memory only where it has one
-abbrev pub IsBatteryCause : (rom : List ℕ) → GameError → Type 0
+abbrev pub IsBatteryCause : (rom : List ℕ) → Refusal → Type 0
 IsBatteryCause rom Memory = has_battery rom ≡ true
 IsBatteryCause rom NoBattery = has_battery rom ≡ false
 IsBatteryCause rom why = ⊥

@@ -5,8 +5,8 @@ use Rattle.cartridge.specs.Accepted.{refusal_of}
 use Rattle.memory_map.specs.Bus.{peeked}
 use Rattle.machine.specs.Machine.{MachineState}
 use Rattle.state_header.specs.States.{IsOfAnotherRom}
-use Rattle.embedding.specs.declared.error.ConsoleError.{ConsoleError}
-use Rattle.embedding.specs.declared.error.ConsoleError.TheVariants.{Memory, Cart, NoState, OtherCartridge, Snapshot}
+use Rattle.refusals.specs.declared.refusal.Refusal.{Refusal}
+use Rattle.refusals.specs.declared.refusal.Refusal.TheVariants.{Memory, Cart, NoState, OtherState, Snapshot}
 use Rattle.embedding.specs.States.{IsNoState, IsStateFault}
 
 -- ---- the picture
@@ -24,18 +24,15 @@ bytes_from m address count = map (λ k. peeked m.processor.memory ((address + k)
 -- ---- refusals
 
 -- why an image gives no console: the first rule of a cartridge that it breaks, or want of memory
-abbrev pub IsNewCause : (rom : List ℕ) → ConsoleError → Type 0
+abbrev pub IsNewCause : (rom : List ℕ) → Refusal → Type 0
 IsNewCause rom Memory = ⊤
 IsNewCause rom (Cart fault) = refusal_of rom ≡ Some fault
-IsNewCause rom NoState = ⊥
-IsNewCause rom OtherCartridge = ⊥
-IsNewCause rom (Snapshot fault) = ⊥
+IsNewCause rom why = ⊥
 
 -- Why bytes give no machine of the cartridge: they are no state; they name another ROM, no matter what stands behind the header; the first
 -- fault of the snapshot behind this one's.
-abbrev pub IsRestoreCause : (rom bytes : List ℕ) → ConsoleError → Type 0
-IsRestoreCause rom bytes Memory = ⊥
-IsRestoreCause rom bytes (Cart fault) = ⊥
+abbrev pub IsRestoreCause : (rom bytes : List ℕ) → Refusal → Type 0
 IsRestoreCause rom bytes NoState = IsNoState bytes
-IsRestoreCause rom bytes OtherCartridge = IsOfAnotherRom rom bytes
+IsRestoreCause rom bytes OtherState = IsOfAnotherRom rom bytes
 IsRestoreCause rom bytes (Snapshot fault) = IsStateFault rom bytes fault
+IsRestoreCause rom bytes why = ⊥

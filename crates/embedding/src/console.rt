@@ -8,14 +8,14 @@ ghost use Rattle.snapshot.specs.Legal.{IsMachineOf};
 ghost use Rattle.state_header.specs.States.{state_length, state_of};
 ghost use Rattle.session.specs.Resting.{IsOfItsRom, own_prop};
 ghost use Rattle.embedding.specs.Orders.{shades_of, bytes_from, IsNewCause, IsRestoreCause};
-ghost use Rattle.embedding.specs.declared.error.ConsoleError.TheVariants.{Memory};
+ghost use Rattle.refusals.specs.declared.refusal.Refusal.TheVariants.{Memory};
 
-use crate::error::ConsoleError;
 use crate::looking::write_memory;
 use crate::shades::write_shades;
 use crate::states::{named, write_state};
 use cartridge::Cartridge;
 use machine::{Input, Machine};
+use refusals::Refusal;
 use session::machine_at_power_on;
 use snapshot::{decode_into, powered};
 use state_header::{HEADER_LENGTH, Named};
@@ -53,21 +53,21 @@ impl Console {
     /// The machine of this image at power-on. The image is copied.
     ///
     /// Refusals, in this order: `Memory` for the copy; `Cart` with the first rule that the image breaks; `Memory` for the machine.
-    pub fn new(alloc: Global, rom: &[u8]) -> Result<Console, ConsoleError>
+    pub fn new(alloc: Global, rom: &[u8]) -> Result<Console, Refusal>
         ensures rom { IfOk result (λ c. c.cartridge ≡ rom.now) }
         ensures machine { IfOk result (λ c. c.machine ≡ start rom.now) }
         ensures accepted { IfOk result (λ c. IsAccepted rom.now) }
         ensures cause { IfErr result (IsNewCause rom.now) }
     {
         let Ok(image) = copied(alloc, rom) else {
-            return Err(ConsoleError::Memory);
+            return Err(Refusal::Memory);
         };
         let cartridge = match Cartridge::read(image) {
             Ok(cartridge) => cartridge,
-            Err(why) => return Err(ConsoleError::Cart(why)),
+            Err(why) => return Err(Refusal::Cart(why)),
         };
         let Ok(machine) = machine_at_power_on(alloc, &cartridge) else {
-            return Err(ConsoleError::Memory);
+            return Err(Refusal::Memory);
         };
         Ok(Console { cartridge, machine })
     }
@@ -90,14 +90,14 @@ impl Console {
 
     /// Switches the power off and on. The RAM of a cartridge with a battery stays, and its clock goes on; of one without, everything begins
     /// anew. Refused with `Memory` alone.
-    pub fn power(&mut self, alloc: Global) -> Result<(), ConsoleError>
+    pub fn power(&mut self, alloc: Global) -> Result<(), Refusal>
         ensures machine { OnOk result (self.new.machine ≡ powered self.old.machine) }
         ensures cartridge { self.new.cartridge ≡ self.old.cartridge }
         ensures refused { OnErr result (self.new.machine ≡ self.old.machine) }
         ensures cause { IfErr result (λ why. why ≡ Memory) }
     {
         let Ok(machine) = powered(alloc, &self.cartridge, &self.machine) else {
-            return Err(ConsoleError::Memory);
+            return Err(Refusal::Memory);
         };
         drop(mem::replace(&mut self.machine, machine));
         Ok(())
@@ -134,9 +134,9 @@ impl Console {
 
     /// Takes the machine whose state this is.
     ///
-    /// Refusals: `NoState` for bytes that do not begin with the header of a state; `OtherCartridge` for the header of another ROM, no matter what
+    /// Refusals: `NoState` for bytes that do not begin with the header of a state; `OtherState` for the header of another ROM, no matter what
     /// stands behind it; `Snapshot` for what is no legal snapshot behind this ROM's.
-    pub fn restore(&mut self, bytes: &[u8]) -> Result<(), ConsoleError>
+    pub fn restore(&mut self, bytes: &[u8]) -> Result<(), Refusal>
         ensures state { OnOk result (state_of self.new.machine ≡ bytes.now) }
         ensures of { OnOk result (IsMachineOf self.old.cartridge self.new.machine) }
         ensures cartridge { self.new.cartridge ≡ self.old.cartridge }
@@ -147,11 +147,11 @@ impl Console {
             Named::Same => {
                 match decode_into(&bytes[HEADER_LENGTH..], &self.cartridge, &mut self.machine) {
                     Ok(()) => Ok(()),
-                    Err(why) => Err(ConsoleError::Snapshot(why)),
+                    Err(why) => Err(Refusal::Snapshot(why)),
                 }
             }
-            Named::Other => Err(ConsoleError::OtherCartridge),
-            Named::Nothing => Err(ConsoleError::NoState),
+            Named::Other => Err(Refusal::OtherState),
+            Named::Nothing => Err(Refusal::NoState),
         }
     }
 

@@ -15,22 +15,22 @@ ghost use Rattle.session.specs.Calls.{input_answer};
 ghost use Rattle.session.specs.Stands.{IsAtRest, StandsAt, StandsBetween};
 ghost use Rattle.session.specs.Inputs.{can_be_logged, entry_of, inputs_of};
 ghost use Rattle.battery_files.specs.Battery.{battery_length, battery_of};
-ghost use Rattle.battery_files.specs.Importing.{IsImportCause as IsFileCause, start_with};
+ghost use Rattle.battery_files.specs.Importing.{start_with};
 ghost use Rattle.embedding.specs.Orders.{bytes_from, shades_of};
 ghost use Rattle.embedding.specs.Games.{IsBatteryCause, IsBeginCause, IsCartCause, IsFrom, IsImportCause, IsPowerAnswer, IsSaveCause, IsTakeUpCause, IsTaken, KeepsInputs};
 ghost use Rattle.embedding.specs.Calls.{image_calls};
 ghost use Rattle.embedding.specs.HostDevices.{HasHandedOut, calls_of, count_of, handed_of, host_disk, waiting_of};
 ghost use Rattle.embedding.specs.States.{IsStateAnswer};
 
-use crate::error::GameError;
 use crate::host_device::{Call, HostDevice};
 use crate::looking::write_memory;
 use crate::shades::write_shades;
 use crate::states::{named, told_of_other, write_state};
-use battery_files::{ImportError, battery_length, battery_of, machine_with_battery};
+use battery_files::{battery_length, battery_of, machine_with_battery};
 use cartridge::Cartridge;
 use machine::{Input, Region};
-use sector_device::SectorDevice;
+use refusals::Refusal;
+use sector_device::{DeviceFault, SectorDevice};
 use session::{Session, SessionError, new_game, new_game_from, resume, sectors_needed};
 use state_header::{HEADER_LENGTH, Named};
 use std::alloc::Global;
@@ -44,36 +44,24 @@ pub struct Game {
 }
 
 /// The cartridge in a copy of an image.
-fn read_cartridge(alloc: Global, rom: &[u8]) -> Result<Cartridge, GameError>
+fn read_cartridge(alloc: Global, rom: &[u8]) -> Result<Cartridge, Refusal>
     ensures image { IfOk result (λ c. c ≡ rom.now) }
     ensures accepted { IfOk result (λ c. IsAccepted rom.now) }
     ensures cause { IfErr result (IsCartCause rom.now) }
 {
     let Ok(image) = rom.to_vec(alloc) else {
-        return Err(GameError::Memory);
+        return Err(Refusal::Memory);
     };
     match Cartridge::read(image) {
         Ok(cartridge) => Ok(cartridge),
-        Err(why) => Err(GameError::Cart(why)),
-    }
-}
-
-/// Why a battery file was not taken, as a refusal of a game.
-fn import_fault(why: ImportError) -> GameError
-    ensures { (rom battery : List ℕ) (sectors : ℕ) → IsAccepted rom → IsFileCause rom battery why →
-        IsImportCause rom battery sectors result }
-{
-    match why {
-        ImportError::NoBattery => GameError::NoBattery,
-        ImportError::Length { found, needed } => GameError::BatteryLength { found, needed },
-        ImportError::Memory => GameError::Memory,
+        Err(why) => Err(Refusal::Cart(why)),
     }
 }
 
 /// How many sectors a game of this image needs.
 ///
 /// Refusals: `Memory`, `Cart`.
-pub fn sectors_of(alloc: Global, rom: &[u8]) -> Result<u64, GameError>
+pub fn sectors_of(alloc: Global, rom: &[u8]) -> Result<u64, Refusal>
     ensures need { IfOk result (λ sectors. sectors ≡ need (snapshot_length (ram_length_of rom.now))) }
     ensures cause { IfErr result (IsCartCause rom.now) }
 {
@@ -107,7 +95,7 @@ impl Game {
     /// Begins a game at power-on on a device of so many zero sectors. The calls that begin it are the first that the host has to make.
     ///
     /// Refusals: `Memory`; `Cart`; `Session` with `TooSmall`.
-    pub fn begin(alloc: Global, rom: &[u8], sectors: usize) -> Result<Game, GameError>
+    pub fn begin(alloc: Global, rom: &[u8], sectors: usize) -> Result<Game, Refusal>
         ensures begun { IfOk result (λ g.
             (acknowledged_of g.session ≡ 0) × (pending_of g.session ≡ []) × (is_broken g.session ≡ false)) }
         ensures machine { IfOk result (λ g. (machine_of g.session ≡ start rom.now) × (rom_of g.session ≡ rom.now)) }
@@ -122,11 +110,11 @@ impl Game {
             Err(why) => return Err(why),
         };
         let Ok(device) = HostDevice::new(alloc, sectors) else {
-            return Err(GameError::Memory);
+            return Err(Refusal::Memory);
         };
         match new_game(alloc, device, &cartridge) {
             Ok(session) => Ok(Game { session, cartridge }),
-            Err(refused) => Err(GameError::Session(refused.why)),
+            Err(refused) => Err(Refusal::Session(refused.why)),
         }
     }
 
@@ -140,7 +128,7 @@ impl Game {
         rom: &[u8],
         battery: &[u8],
         sectors: usize,
-    ) -> Result<Game, GameError>
+    ) -> Result<Game, Refusal>
         ensures begun { IfOk result (λ g.
             (acknowledged_of g.session ≡ 0) × (pending_of g.session ≡ []) × (is_broken g.session ≡ false)) }
         ensures machine { IfOk result (λ g.
@@ -160,15 +148,15 @@ impl Game {
         };
         let machine = match machine_with_battery(alloc, &cartridge, battery) {
             Ok(machine) => machine,
-            Err(why) => return Err(import_fault(why)),
+            Err(why) => return Err(why),
         };
         let Ok(device) = HostDevice::new(alloc, sectors) else {
             drop(machine);
-            return Err(GameError::Memory);
+            return Err(Refusal::Memory);
         };
         match new_game_from(alloc, device, &cartridge, machine) {
             Ok(session) => Ok(Game { session, cartridge }),
-            Err(refused) => Err(GameError::Session(refused.why)),
+            Err(refused) => Err(Refusal::Session(refused.why)),
         }
     }
 
@@ -344,7 +332,7 @@ impl Game {
     /// Writes the battery file of the machine after all inputs, saved and unsaved. Condition: there are as many bytes as `battery_length` says.
     ///
     /// Refusals, in this order: `NoBattery`; `Memory`.
-    pub fn battery(&self, alloc: Global, bytes: &mut [u8]) -> Result<(), GameError>
+    pub fn battery(&self, alloc: Global, bytes: &mut [u8]) -> Result<(), Refusal>
         requires { length bytes.old ≡ battery_length (rom_of self.now.session) }
         ensures battery { OnOk result ((has_battery (rom_of self.now.session) ≡ true) ×
             (bytes.new ≡ battery_of (machine_of self.now.session))) }
@@ -352,10 +340,10 @@ impl Game {
         ensures cause { IfErr result (IsBatteryCause (rom_of self.now.session)) }
     {
         if !self.cartridge.has_battery() {
-            return Err(GameError::NoBattery);
+            return Err(Refusal::NoBattery);
         }
         let Ok(file) = battery_of(alloc, self.session.machine()) else {
-            return Err(GameError::Memory);
+            return Err(Refusal::Memory);
         };
         bytes.copy_from_slice(&file);
         Ok(())
@@ -364,8 +352,8 @@ impl Game {
     /// Takes up the game that an image of a device stands for. The calls that begin its new generation are the first that the host has to make,
     /// on a device that holds the image.
     ///
-    /// Refusals: `Size` for an image that is not whole sectors; `Memory`; `Cart`; `Session` with those of `resume`.
-    pub fn resume(alloc: Global, rom: &[u8], image: &[u8]) -> Result<Game, GameError>
+    /// Refusals: `Device` with `SizeNotSectors` for an image that is not whole sectors; `Memory`; `Cart`; `Session` with those of `resume`.
+    pub fn resume(alloc: Global, rom: &[u8], image: &[u8]) -> Result<Game, Refusal>
         ensures begun { IfOk result (λ g.
             (pending_of g.session ≡ []) × (is_broken g.session ≡ false) × (rom_of g.session ≡ rom.now)) }
         ensures saved { IfOk result (λ g.
@@ -380,19 +368,19 @@ impl Game {
         ensures cause { IfErr result (IsTakeUpCause rom.now image.now) }
     {
         if image.len() % 512 != 0 {
-            return Err(GameError::Size(image.len() as u64));
+            return Err(Refusal::Device(DeviceFault::SizeNotSectors(image.len() as u64)));
         }
         let cartridge = match read_cartridge(alloc, rom) {
             Ok(cartridge) => cartridge,
             Err(why) => return Err(why),
         };
         let Ok(mut device) = HostDevice::new(alloc, image.len() / 512) else {
-            return Err(GameError::Memory);
+            return Err(Refusal::Memory);
         };
         fill_from(&mut device, image);
         match resume(alloc, device, &cartridge) {
             Ok(session) => Ok(Game { session, cartridge }),
-            Err(refused) => Err(GameError::Session(refused.why)),
+            Err(refused) => Err(Refusal::Session(refused.why)),
         }
     }
 }

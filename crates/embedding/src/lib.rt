@@ -5,7 +5,6 @@
 #![tactic(auto)]
 
 mod console;
-mod error;
 mod game;
 mod host_device;
 mod looking;
@@ -13,6 +12,5 @@ mod shades;
 mod states;
 
 pub use console::Console;
-pub use error::{ConsoleError, GameError};
 pub use game::{Game, sectors_of};
 pub use host_device::{Call, HostDevice};

@@ -7,12 +7,12 @@ use Rattle.command_line.specs.declared.Request.{Request}
 use Rattle.gbkeep.specs.Beginning.{IsUntold, begun_line}
 use Rattle.gbkeep.specs.Program.{IsServed}
 use Rattle.gbkeep.specs.Request.{HasAddress, HasDevice, IsDone, IsOutputRefused}
-use Rattle.gbkeep.specs.declared.fault.Fault.{Fault}
-use Rattle.gbkeep.specs.declared.fault.Fault.TheVariants.{Cart, Memory, File, Output, Address, Word, Device, Script, Session, Line, Input, Snapshot, OtherState, Recording, Behind, Ahead, Differ, OtherRecording, RecordedGame, TestFailed, TestUndecided, NoBattery, BatteryLength}
+use Rattle.refusals.specs.declared.refusal.Refusal.{Refusal}
+use Rattle.refusals.specs.declared.refusal.Refusal.TheVariants.{Cart, Memory, File, Output, Address, Word, Device, Script, Session, Line, Input, Snapshot, NoState, OtherState, Recording, Behind, Ahead, Differ, OtherRecording, RecordedGame, TestFailed, TestUndecided, NoBattery, BatteryLength, WrongLength, NoTime}
 
 pub begun_served : (request : Request) (old new : Option (List ℕ)) → HasAddress request → HasDevice request
     → (Appends old new begun_line → IsDone request old new) → (AppendsProperPrefix old new begun_line → IsOutputRefused request old new)
-    → (r : Result Unit Fault) → OnOk r (Appends old new begun_line) → IfErr r (IsUntold old new) → IsServed request r old new
+    → (r : Result Unit Refusal) → OnOk r (Appends old new begun_line) → IfErr r (IsUntold old new) → IsServed request r old new
 begun_served request old new address device done cut (Ok u) written cause = done written
 begun_served request old new address device done cut (Err Output) written cause = (address, cut cause)
 begun_served request old new address device done cut (Err (Device fault)) written cause = (device, cause)
@@ -25,7 +25,10 @@ begun_served request old new address device done cut (Err (Script fault)) writte
 begun_served request old new address device done cut (Err (Session fault)) written cause = absurd cause
 begun_served request old new address device done cut (Err (Line number)) written cause = absurd cause
 begun_served request old new address device done cut (Err Input) written cause = absurd cause
-begun_served request old new address device done cut (Err Snapshot) written cause = absurd cause
+begun_served request old new address device done cut (Err NoState) written cause = absurd cause
+begun_served request old new address device done cut (Err (Snapshot why)) written cause = absurd cause
+begun_served request old new address device done cut (Err WrongLength) written cause = absurd cause
+begun_served request old new address device done cut (Err NoTime) written cause = absurd cause
 begun_served request old new address device done cut (Err OtherState) written cause = absurd cause
 begun_served request old new address device done cut (Err (Recording fault)) written cause = absurd cause
 begun_served request old new address device done cut (Err (Behind count)) written cause = absurd cause

@@ -12,10 +12,10 @@ use Rattle.commands.specs.Show.{IsShowCause}
 use Rattle.commands.specs.Recorded.{IsScriptCause}
 use Rattle.commands.specs.Verify.{IsLineCause}
 use Rattle.commands.specs.Text.{call_on}
-use Rattle.gbkeep.specs.Program.{IsRefused, fault_of_command}
+use Rattle.gbkeep.specs.Program.{IsRefused, refusal_of_command}
 
 pub play_refused : (cart save script : Bor (List ℕ)) (rom text : List ℕ) (file left : FileDevice) (old new : Option (List ℕ)) (why : CommandError) → (why ≡ Output → ⊥)
-    → IsPlayCause rom text (call_on (file_disk file) (file_disk left) old new) why → IsRefused (Play cart save script) (fault_of_command why) old new
+    → IsPlayCause rom text (call_on (file_disk file) (file_disk left) old new) why → IsRefused (Play cart save script) (refusal_of_command why) old new
 play_refused cart save script rom text file left old new (Cart fault) drawn cause = (tt, cause.1, (rom, cause.0))
 play_refused cart save script rom text file left old new (Script fault) drawn cause = (tt, cause.2, (text, tt, cause.1))
 play_refused cart save script rom text file left old new (Session fault) drawn cause = (rom, text, (file, left, cause))
@@ -27,7 +27,7 @@ play_refused cart save script rom text file left old new Memory drawn cause = ab
 play_refused cart save script rom text file left old new Output drawn cause = absurd (drawn refl)
 
 pub frame_refused : (cart save out : Bor (List ℕ)) (rom : List ℕ) (file left : FileDevice) (old new : Option (List ℕ)) (why : CommandError)
-    → IsPlayCause rom [] (call_on (file_disk file) (file_disk left) old new) why → IsRefused (Frame cart save out) (fault_of_command why) old new
+    → IsPlayCause rom [] (call_on (file_disk file) (file_disk left) old new) why → IsRefused (Frame cart save out) (refusal_of_command why) old new
 frame_refused cart save out rom file left old new (Cart fault) cause = (tt, cause.1, (rom, cause.0))
 frame_refused cart save out rom file left old new (Script fault) cause = (tt, cause.2, ([], refl, cause.1))
 frame_refused cart save out rom file left old new (Session fault) cause = (rom, (file, left, cause))
@@ -39,7 +39,7 @@ frame_refused cart save out rom file left old new Memory cause = absurd cause
 frame_refused cart save out rom file left old new Output cause = (tt, (rom, (file, left, cause)))
 
 pub trace_refused : (cart save : Bor (List ℕ)) (count : ℕ) (rom : List ℕ) (file left : FileDevice) (old new : Option (List ℕ)) (why : CommandError)
-    → IsTraceCause rom count (call_on (file_disk file) (file_disk left) old new) why → IsRefused (TraceOf cart save count) (fault_of_command why) old new
+    → IsTraceCause rom count (call_on (file_disk file) (file_disk left) old new) why → IsRefused (TraceOf cart save count) (refusal_of_command why) old new
 trace_refused cart save count rom file left old new (Cart fault) cause = (tt, cause.1, (rom, cause.0))
 trace_refused cart save count rom file left old new (Script fault) cause = absurd cause
 trace_refused cart save count rom file left old new (Session fault) cause = (rom, (file, left, cause))
@@ -51,7 +51,7 @@ trace_refused cart save count rom file left old new Memory cause = (tt, cause.1)
 trace_refused cart save count rom file left old new Output cause = (tt, (rom, (file, left, cause)))
 
 pub show_refused : (cart save : Bor (List ℕ)) (rom : List ℕ) (file : FileDevice) (old new : Option (List ℕ)) (why : CommandError)
-    → IsShowCause rom (file_disk file) old new why → IsRefused (ShowOf cart save) (fault_of_command why) old new
+    → IsShowCause rom (file_disk file) old new why → IsRefused (ShowOf cart save) (refusal_of_command why) old new
 show_refused cart save rom file old new (Cart fault) cause = (tt, cause.1, (rom, cause.0))
 show_refused cart save rom file old new (Script fault) cause = absurd cause
 show_refused cart save rom file old new (Session why) cause = (rom, (file, cause))
@@ -63,7 +63,7 @@ show_refused cart save rom file old new Memory cause = absurd cause
 show_refused cart save rom file old new Output cause = (tt, (rom, (file, cause)))
 
 pub recorded_refused : (cart recording : Bor (List ℕ)) (rom : List ℕ) (file : FileDevice) (old new : Option (List ℕ)) (why : CommandError)
-    → IsScriptCause rom (file_disk file) old new why → IsRefused (RecordedOf cart recording) (fault_of_command why) old new
+    → IsScriptCause rom (file_disk file) old new why → IsRefused (RecordedOf cart recording) (refusal_of_command why) old new
 recorded_refused cart recording rom file old new (Cart fault) cause = (tt, cause.1, (rom, cause.0))
 recorded_refused cart recording rom file old new (Script fault) cause = absurd cause
 recorded_refused cart recording rom file old new (Session fault) cause = absurd cause
@@ -75,7 +75,7 @@ recorded_refused cart recording rom file old new Memory cause = absurd cause
 recorded_refused cart recording rom file old new Output cause = (tt, (rom, (file, cause)))
 
 pub verify_refused : (cart save recording : Bor (List ℕ)) (rom : List ℕ) (game tape : FileDevice) (old new : Option (List ℕ)) (why : CommandError)
-    → IsLineCause rom (file_disk game) (file_disk tape) old new why → IsRefused (VerifyOf cart save recording) (fault_of_command why) old new
+    → IsLineCause rom (file_disk game) (file_disk tape) old new why → IsRefused (VerifyOf cart save recording) (refusal_of_command why) old new
 verify_refused cart save recording rom game tape old new (Cart fault) cause = (tt, cause.1, (rom, cause.0))
 verify_refused cart save recording rom game tape old new (Script fault) cause = absurd cause
 verify_refused cart save recording rom game tape old new (Session fault) cause = absurd cause

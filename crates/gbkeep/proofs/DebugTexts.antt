@@ -9,10 +9,10 @@ use Rattle.commands.specs.declared.error.CommandError.TheVariants.{Cart, Script,
 use Rattle.commands.specs.Debug.{HasDebugged, IsDebugGameCause, IsDebugRomCause}
 use Rattle.commands.specs.Text.{Text}
 use Rattle.gbkeep.specs.Request.{IsDebugged, exchange_of}
-use Rattle.gbkeep.specs.Program.{IsDebugRefused, fault_of_command}
+use Rattle.gbkeep.specs.Program.{IsDebugRefused, refusal_of_command}
 
 pub debug_rom_refused : (rom : List ℕ) (input output : Text) (why : CommandError) → IsDebugRomCause rom (exchange_of input output) why
-    → IsDebugRefused None (fault_of_command why) input output
+    → IsDebugRefused None (refusal_of_command why) input output
 debug_rom_refused rom input output (Cart fault) cause = (cause.1.0, cause.1.1, (rom, cause.0))
 debug_rom_refused rom input output (Script fault) cause = absurd cause
 debug_rom_refused rom input output (Session fault) cause = absurd cause
@@ -30,7 +30,7 @@ module _ (save : Bor (List ℕ)) (rom : List ℕ) (file left : FileDevice) (inpu
   game_debugged accepted it = (rom, accepted, (file, left, it))
 
   pub debug_game_refused : (why : CommandError) → IsDebugGameCause rom (file_disk file) (file_disk left) (exchange_of input output) why
-      → IsDebugRefused (Some save) (fault_of_command why) input output
+      → IsDebugRefused (Some save) (refusal_of_command why) input output
   debug_game_refused (Cart fault) cause = (cause.1.0, cause.1.1, (rom, cause.0))
   debug_game_refused (Script fault) cause = absurd cause
   debug_game_refused (Session fault) cause = (rom, (file, left, cause))

@@ -1,15 +1,16 @@
 -- How the program ends on a request that was refused.
-use Rattle.std.proofs.Common.{◌≡◌, Bor, List, ℕ, Ok, Option, refl, sym, subst, arith}
+use Rattle.std.proofs.Common.{◌≡◌, Bor, List, ℕ, Ok, Option, Some, refl, sym, subst, arith}
 use Rattle.command_line.specs.declared.Request.{Request}
 use Rattle.command_line.specs.declared.Request.TheVariants.{Info, List as Listing, Step, New, Play, Frame, Trace, Stream, NewRecording, Record, Recorded, Verify, Test, Show, Export, Import, Debug}
 use Rattle.test_run.specs.declared.verdict.Verdict.TheVariants.{Failed, Undecided}
 use Rattle.replaying.specs.declared.error.VerifyError.TheVariants.{Behind as RecordingBehind, Differ as MachinesDiffer}
 use Rattle.gbkeep.specs.declared.words.Asked.TheVariants.{Command}
-use Rattle.gbkeep.specs.declared.fault.Fault.{Fault}
-use Rattle.gbkeep.specs.declared.fault.Fault.TheVariants.{Cart, Memory, File, Output, Address, Word, Device, Script, Session, Line, Input, Snapshot, OtherState, Recording, Behind, Ahead, Differ, OtherRecording, RecordedGame, TestFailed, TestUndecided, NoBattery, BatteryLength}
+use Rattle.refusals.specs.declared.refusal.Refusal.{Refusal}
+use Rattle.refusals.specs.declared.refusal.Refusal.TheVariants.{Cart, Memory, File, Output, Address, Word, Device, Script, Session, Line, Input, Snapshot, NoState, OtherState, Recording, Behind, Ahead, Differ, OtherRecording, RecordedGame, TestFailed, TestUndecided, NoBattery, BatteryLength, WrongLength, NoTime}
 use Rattle.commands.specs.Text.{Text, IsUnread, IsUnwritten}
 use Rattle.gbkeep.specs.Request.{GivesInputs, HasAddress, HasDevice, HasScript, IsCompared, IsGameRefused, IsRecordingRefused, IsTestDecided, IsWithoutBattery, IsOtherLength}
-use Rattle.gbkeep.specs.Program.{Exchange, HasEnded, HasLine, IsDebugRefused, IsRecordRefused, IsRefused, IsRefusedReading, IsStreamRefused, IsTrueOf, line_of, status_of}
+use Rattle.gbkeep.specs.Program.{Exchange, HasEnded, HasLine, IsDebugRefused, IsRecordRefused, IsRefused, IsRefusedReading, IsStreamRefused, IsTrueOf, line_of}
+use Rattle.refusals.specs.Statuses.{status_of}
 
 -- what never holds of a listing holds only of requests without an address
 elsewhere : (P : Request → Type 0) → ((cart address : Bor (List ℕ)) (count : ℕ) → P (Listing cart address count) → ⊥) → (request : Request) → P request → HasAddress request
@@ -32,10 +33,10 @@ elsewhere P never (Import cart battery save sectors) p = tt
 elsewhere P never (Debug cart save) p = tt
 
 -- its line, and what it tells as failed has failed
-abbrev Told : Request → Fault → Exchange → Type 0
-Told request fault run = HasLine (line_of fault) run.errors.before run.errors.since × IsTrueOf (Ok (Command request)) fault run
+abbrev Told : Request → Refusal → Exchange → Type 0
+Told request fault run = HasLine (Some (line_of fault)) run.errors.before run.errors.since × IsTrueOf (Ok (Command request)) fault run
 
-refused_by : (request : Request) (fault : Fault) (run : Exchange) → status_of fault ≡ 1 → HasAddress request → IsRefusedReading request fault run.input run.output → Told request fault run
+refused_by : (request : Request) (fault : Refusal) (run : Exchange) → status_of fault ≡ 1 → HasAddress request → IsRefusedReading request fault run.input run.output → Told request fault run
     → HasEnded (Ok (Command request)) run 1
 refused_by request fault run is address why told = record {
   done = λ zero. absurd (cc);
@@ -45,7 +46,7 @@ refused_by request fault run is address why told = record {
   bound = omega arith;
 }
 
-misused_by : (request : Request) (run : Exchange) → ¬ (HasAddress request) → IsUnread run.input → IsUnwritten run.output → HasLine (line_of Address) run.errors.before run.errors.since
+misused_by : (request : Request) (run : Exchange) → ¬ (HasAddress request) → IsUnread run.input → IsUnwritten run.output → HasLine (Some (line_of Address)) run.errors.before run.errors.since
     → HasEnded (Ok (Command request)) run 2
 misused_by request run none unread unwritten line = record {
   done = λ zero. absurd (cc);
@@ -56,7 +57,7 @@ misused_by request run none unread unwritten line = record {
 }
 
 -- a request that reads no input
-unread_by : (request : Request) (fault : Fault) (run : Exchange) → IsUnread run.input → IsRefused request fault run.output.before run.output.since → IsRefusedReading request fault run.input run.output
+unread_by : (request : Request) (fault : Refusal) (run : Exchange) → IsUnread run.input → IsRefused request fault run.output.before run.output.since → IsRefusedReading request fault run.input run.output
     → Told request fault run → HasEnded (Ok (Command request)) run (status_of fault)
 unread_by request (Cart fault) run unread is why told = refused_by request (Cart fault) run refl is.0 why told
 unread_by request Memory run unread is why told = refused_by request Memory run refl is.0 why told
@@ -69,7 +70,10 @@ unread_by request (Script fault) run unread is why told = refused_by request (Sc
 unread_by request (Session fault) run unread is why told = refused_by request (Session fault) run refl (elsewhere (λ r. IsGameRefused r fault run.output.before run.output.since) (λ cart address count no. no) request is) why told
 unread_by request (Line number) run unread is why told = absurd is
 unread_by request Input run unread is why told = absurd is
-unread_by request Snapshot run unread is why told = absurd is
+unread_by request NoState run unread is why told = absurd is
+unread_by request (Snapshot fault) run unread is why told = absurd is
+unread_by request WrongLength run unread is why told = absurd is
+unread_by request NoTime run unread is why told = absurd is
 unread_by request OtherState run unread is why told = absurd is
 unread_by request (Recording fault) run unread is why told = refused_by request (Recording fault) run refl (elsewhere (λ r. IsRecordingRefused r fault run.output.before run.output.since) (λ cart address count no. no) request is) why told
 unread_by request (Behind count) run unread is why told = refused_by request (Behind count) run refl (elsewhere (λ r. IsCompared r (RecordingBehind count) run.output.before run.output.since) (λ cart address count no. no) request is) why told
@@ -82,7 +86,7 @@ unread_by request TestUndecided run unread is why told = refused_by request Test
 unread_by request NoBattery run unread is why told = refused_by request NoBattery run refl (elsewhere (λ r. IsWithoutBattery r run.output.before run.output.since) (λ cart address count no. no) request is) why told
 unread_by request (BatteryLength found needed) run unread is why told = refused_by request (BatteryLength found needed) run refl (elsewhere (λ r. IsOtherLength r found needed run.output.before run.output.since) (λ cart address count no. no) request is) why told
 
-stream_status : (fault : Fault) (input output : Text) → IsStreamRefused fault input output → status_of fault ≡ 1
+stream_status : (fault : Refusal) (input output : Text) → IsStreamRefused fault input output → status_of fault ≡ 1
 stream_status (Cart fault) input output is = refl
 stream_status Memory input output is = refl
 stream_status File input output is = refl
@@ -94,7 +98,10 @@ stream_status (Script fault) input output is = absurd is
 stream_status (Session fault) input output is = refl
 stream_status (Line number) input output is = refl
 stream_status Input input output is = refl
-stream_status Snapshot input output is = refl
+stream_status NoState input output is = refl
+stream_status (Snapshot why) input output is = absurd is
+stream_status WrongLength input output is = absurd is
+stream_status NoTime input output is = absurd is
 stream_status OtherState input output is = refl
 stream_status (Recording fault) input output is = absurd is
 stream_status (Behind count) input output is = absurd is
@@ -107,7 +114,7 @@ stream_status TestUndecided input output is = absurd is
 stream_status NoBattery input output is = absurd is
 stream_status (BatteryLength found needed) input output is = absurd is
 
-record_status : (fault : Fault) (input output : Text) → IsRecordRefused fault input output → status_of fault ≡ 1
+record_status : (fault : Refusal) (input output : Text) → IsRecordRefused fault input output → status_of fault ≡ 1
 record_status (Cart fault) input output is = refl
 record_status Memory input output is = refl
 record_status File input output is = refl
@@ -119,7 +126,10 @@ record_status (Script fault) input output is = absurd is
 record_status (Session fault) input output is = refl
 record_status (Line number) input output is = refl
 record_status Input input output is = refl
-record_status Snapshot input output is = absurd is
+record_status NoState input output is = absurd is
+record_status (Snapshot why) input output is = absurd is
+record_status WrongLength input output is = absurd is
+record_status NoTime input output is = absurd is
 record_status OtherState input output is = absurd is
 record_status (Recording fault) input output is = refl
 record_status (Behind count) input output is = refl
@@ -132,7 +142,7 @@ record_status TestUndecided input output is = absurd is
 record_status NoBattery input output is = absurd is
 record_status (BatteryLength found needed) input output is = absurd is
 
-debug_status : (save : Option (Bor (List ℕ))) (fault : Fault) (input output : Text) → IsDebugRefused save fault input output → status_of fault ≡ 1
+debug_status : (save : Option (Bor (List ℕ))) (fault : Refusal) (input output : Text) → IsDebugRefused save fault input output → status_of fault ≡ 1
 debug_status save (Cart fault) input output is = refl
 debug_status save Memory input output is = refl
 debug_status save File input output is = refl
@@ -144,7 +154,10 @@ debug_status save (Script fault) input output is = absurd is
 debug_status save (Session fault) input output is = refl
 debug_status save (Line number) input output is = absurd is
 debug_status save Input input output is = refl
-debug_status save Snapshot input output is = absurd is
+debug_status save NoState input output is = absurd is
+debug_status save (Snapshot why) input output is = absurd is
+debug_status save WrongLength input output is = absurd is
+debug_status save NoTime input output is = absurd is
 debug_status save OtherState input output is = absurd is
 debug_status save (Recording fault) input output is = absurd is
 debug_status save (Behind count) input output is = absurd is
@@ -157,7 +170,7 @@ debug_status save TestUndecided input output is = absurd is
 debug_status save NoBattery input output is = absurd is
 debug_status save (BatteryLength found needed) input output is = absurd is
 
-pub refused_ends : (request : Request) (fault : Fault) (run : Exchange) → IsRefusedReading request fault run.input run.output → Told request fault run → HasEnded (Ok (Command request)) run (status_of fault)
+pub refused_ends : (request : Request) (fault : Refusal) (run : Exchange) → IsRefusedReading request fault run.input run.output → Told request fault run → HasEnded (Ok (Command request)) run (status_of fault)
 refused_ends (Info cart) fault run why told = unread_by (Info cart) fault run why.0 why.1 why told
 refused_ends (Listing cart address count) fault run why told = unread_by (Listing cart address count) fault run why.0 why.1 why told
 refused_ends (Step cart count) fault run why told = unread_by (Step cart count) fault run why.0 why.1 why told

@@ -3,7 +3,6 @@ use Rattle.std.proofs.Common.{◌≡◌, ◌⊎◌, ◌∙◌, ◌<◌, Bor, Lis
 use Rattle.std.proofs.lemmas.List.{get_or-replicate, length-replicate}
 use Rattle.std.specs.Prelude.{IfErr, IfOk, unwrap_or}
 use Rattle.std.specs.Result.{IsErrAnd}
-use Rattle.std.specs.Io.KnownBytes.{Keeps}
 use Rattle.machine.specs.Machine.{MachineState}
 use Rattle.cartridge.specs.Accepted.{refusal_of}
 use Rattle.cartridge.specs.Header.{ram_length_of}
@@ -19,51 +18,37 @@ use Rattle.recording.specs.Calls.{IsBlank, IsCreateCause}
 use Rattle.recording.specs.declared.fault.RecordingFault.{RecordingFault}
 use Rattle.recording.specs.declared.fault.RecordingFault.TheVariants.{Memory, Device, TooSmall, NotBlank, NoRecording, OtherCartridge, Full, Broken}
 use Rattle.gbkeep.specs.NewFiles.{IsNewRecording}
-use Rattle.battery_files.specs.Exporting.{IsExportCause}
 use Rattle.cartridge.specs.declared.error.CartError.{CartError}
 use Rattle.session.specs.declared.error.SessionError.{SessionError}
 use Rattle.session.specs.declared.error.SessionError.TheVariants.{TooSmall as TooSmallFor}
-use Rattle.battery_files.specs.declared.error.ExportError.TheVariants.{Cart as ExportCart, NoBattery, Session as ExportSession}
 use Rattle.battery_files.specs.Importing.{start_with}
 use Rattle.command_line.specs.declared.Request.{Request}
-use Rattle.command_line.specs.declared.Request.TheVariants.{Export, Import}
+use Rattle.command_line.specs.declared.Request.TheVariants.{Import}
 use Rattle.playing.proofs.Stops.{handed_on}
 use Rattle.playing.proofs.Telling.{keeps_same}
 use Rattle.gbkeep.specs.Request.{HasAddress, HasBegun, HasDevice, IsEnough, IsGameBegun, IsImported, IsMemoryRefused, IsNewRecordingCause, IsRecordingBegun, OfAFile, sectors_for}
 use Rattle.gbkeep.specs.Program.{IsRefused, IsServed}
-use Rattle.gbkeep.specs.declared.fault.Fault.{Fault}
-use Rattle.gbkeep.specs.declared.fault.Fault.TheVariants.{Cart as ACart, Device as ADevice, File as AFile, Memory as AMemory, NoBattery as NoBatteryThere, Session as ASession}
-
--- ---- a refusal
-
-module _ (cart save out : Bor (List ℕ)) (rom : List ℕ) (file : FileDevice) (old new : Option (List ℕ)) (keeps : Keeps old new) where
-  pub export_no_cartridge : (why : CartError) → IsExportCause rom (file_disk file) (ExportCart why) → IsRefused (Export cart save out) (ACart why) old new
-  export_no_cartridge why cause = (tt, keeps, (rom, cause))
-
-  pub export_no_battery : IsExportCause rom (file_disk file) NoBattery → IsRefused (Export cart save out) NoBatteryThere old new
-  export_no_battery cause = (keeps, (rom, cause.0, cause.1))
-
-  pub export_no_session : (why : SessionError) → IsExportCause rom (file_disk file) (ExportSession why) → IsRefused (Export cart save out) (ASession why) old new
-  export_no_session why cause = (keeps, (rom, (file, cause)))
+use Rattle.refusals.specs.declared.refusal.Refusal.{Refusal}
+use Rattle.refusals.specs.declared.refusal.Refusal.TheVariants.{Cart as ACart, Device as ADevice, File as AFile, Memory as AMemory}
 
 -- ---- what a call refused before anything was written, passed on
 
-module _ (request : Request) (text : Option (List ℕ)) (address : HasAddress request) (r : Result Unit Fault) where
-  passed_on : (told fault : Fault) → IsErrAnd r (λ f. f ≡ told) → told ≡ fault → IsRefused request fault text text → IsServed request r text text
-  passed_on told fault on is refused = subst (λ (s : Result Unit Fault). IsServed request s text text) (sym (handed_on r on ∙ ap Err is)) refused
+module _ (request : Request) (text : Option (List ℕ)) (address : HasAddress request) (r : Result Unit Refusal) where
+  passed_on : (told fault : Refusal) → IsErrAnd r (λ f. f ≡ told) → told ≡ fault → IsRefused request fault text text → IsServed request r text text
+  passed_on told fault on is refused = subst (λ (s : Result Unit Refusal). IsServed request s text text) (sym (handed_on r on ∙ ap Err is)) refused
 
   -- the bytes of a file
-  pub unread_served : (told : Fault) → IsMemoryRefused request text text → IsErrAnd r (λ f. f ≡ told) → (told ≡ AFile) ⊎ (told ≡ AMemory) → IsServed request r text text
+  pub unread_served : (told : Refusal) → IsMemoryRefused request text text → IsErrAnd r (λ f. f ≡ told) → (told ≡ AFile) ⊎ (told ≡ AMemory) → IsServed request r text text
   unread_served told memory on (inl is) = passed_on told AFile on is (address, keeps_same text)
   unread_served told memory on (inr is) = passed_on told AMemory on is (address, memory)
 
   -- a ROM
   pub no_cartridge_served : (rom : List ℕ) (why : CartError) → IsErrAnd r (λ f. f ≡ ACart why) → Some why ≡ refusal_of rom → IsServed request r text text
   no_cartridge_served rom why on is =
-      subst (λ (s : Result Unit Fault). IsServed request s text text) (sym (handed_on r on)) (address, keeps_same text, (rom, sym is))
+      subst (λ (s : Result Unit Refusal). IsServed request s text text) (sym (handed_on r on)) (address, keeps_same text, (rom, sym is))
 
   -- a file that is to be made
-  pub unmade_served : (told : Fault) → HasDevice request → IsMemoryRefused request text text → IsErrAnd r (λ f. f ≡ told) → (told ≡ AMemory) ⊎ (told ≡ ADevice FailedDevice)
+  pub unmade_served : (told : Refusal) → HasDevice request → IsMemoryRefused request text text → IsErrAnd r (λ f. f ≡ told) → (told ≡ AMemory) ⊎ (told ≡ ADevice FailedDevice)
       → IsServed request r text text
   unmade_served told device memory on (inl is) = passed_on told AMemory on is (address, memory)
   unmade_served told device memory on (inr is) = passed_on told (ADevice FailedDevice) on is (device, keeps_same text)

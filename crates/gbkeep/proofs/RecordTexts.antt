@@ -15,18 +15,18 @@ use Rattle.recorded_play.specs.declared.error.RecordError.{RecordError}
 use Rattle.recorded_play.specs.declared.error.RecordError.TheVariants.{Session, Recording, Behind, Line, Input}
 use Rattle.playing.proofs.Telling.{keeps_same}
 use Rattle.recording_marks.specs.declared.text.Mark.{Mark}
-use Rattle.gbkeep.specs.declared.fault.Fault.{Fault}
-use Rattle.gbkeep.specs.declared.fault.Fault.TheVariants.{Cart as ACart, Memory as AMemory, File as AFile, Output as AnOutput, Address as AnAddress, Word as AWord, Device as ADevice, Script as AScript, Session as ASession, Line as ALine, Input as AnInput, Snapshot as ASnapshot, OtherState as AnOtherState, Recording as ARecording, Behind as ABehind, Ahead as AnAhead, Differ as ADiffer, OtherRecording as AnOtherRecording, RecordedGame as ARecordedGame, TestFailed as ATestFailed, TestUndecided as ATestUndecided, NoBattery as NoBatteryThere, BatteryLength as ABatteryLength}
-use Rattle.gbkeep.specs.Program.{IsNotMarked, IsNotOf, IsRecordRefused, fault_of_command}
+use Rattle.refusals.specs.declared.refusal.Refusal.{Refusal}
+use Rattle.refusals.specs.declared.refusal.Refusal.TheVariants.{Cart as ACart, Memory as AMemory, File as AFile, Output as AnOutput, Address as AnAddress, Word as AWord, Device as ADevice, Script as AScript, Session as ASession, Line as ALine, Input as AnInput, Snapshot as ASnapshot, NoState as ANoState, OtherState as AnOtherState, Recording as ARecording, Behind as ABehind, Ahead as AnAhead, Differ as ADiffer, OtherRecording as AnOtherRecording, RecordedGame as ARecordedGame, TestFailed as ATestFailed, TestUndecided as ATestUndecided, NoBattery as NoBatteryThere, BatteryLength as ABatteryLength, WrongLength as AWrongLength, NoTime as ANoTime}
+use Rattle.gbkeep.specs.Program.{IsNotMarked, IsNotOf, IsRecordRefused, refusal_of_command}
 use Rattle.gbkeep.specs.Request.{IsNotBelonging, IsRecordedTo, record_limits}
 
 -- what a recorded play that was refused is for the program
-abbrev pub fault_of_record : RecordError → Fault
-fault_of_record (Session why) = ASession why
-fault_of_record (Recording why) = ARecording why
-fault_of_record (Behind count) = ABehind count
-fault_of_record (Line number) = ALine number
-fault_of_record Input = AnInput
+abbrev pub refusal_of_record : RecordError → Refusal
+refusal_of_record (Session why) = ASession why
+refusal_of_record (Recording why) = ARecording why
+refusal_of_record (Behind count) = ABehind count
+refusal_of_record (Line number) = ALine number
+refusal_of_record Input = AnInput
 
 module _ (rom : List ℕ) (accepted : IsAccepted rom) (save now_save recording now_recording : FileDevice) (before_in since_in before since : Option (List ℕ)) where
   pub recorded_to : (end : End)
@@ -36,7 +36,7 @@ module _ (rom : List ℕ) (accepted : IsAccepted rom) (save now_save recording n
 
   pub record_refused : (why : RecordError)
       → IsRecordCause why rom (file_disk save) (file_disk now_save) (file_disk recording) (file_disk now_recording) before_in since_in before since
-      → IsRecordRefused (fault_of_record why) (record { before = before_in; since = since_in }) (record { before = before; since = since })
+      → IsRecordRefused (refusal_of_record why) (record { before = before_in; since = since_in }) (record { before = before; since = since })
   record_refused (Session why) cause = inl (rom, accepted, (save, now_save, recording, now_recording, cause))
   record_refused (Recording why) cause = inl (rom, accepted, (save, now_save, recording, now_recording, cause))
   record_refused (Behind count) cause = inl (rom, accepted, (save, now_save, recording, now_recording, cause))
@@ -46,7 +46,7 @@ module _ (rom : List ℕ) (accepted : IsAccepted rom) (save now_save recording n
   record_refused Input (inr it) = recorded_to _ it
 
 -- a game that was not taken up, since its mark knows another recording
-pub not_marked : (said : Option Mark) (tape : FileDevice) (input output : Option (List ℕ)) (fault : Fault) → IsNotMarked said (file_disk tape) fault
+pub not_marked : (said : Option Mark) (tape : FileDevice) (input output : Option (List ℕ)) (fault : Refusal) → IsNotMarked said (file_disk tape) fault
     → IsRecordRefused fault (record { before = input; since = input }) (record { before = output; since = output })
 not_marked said tape input output AnOtherRecording cause = (refl, keeps_same output, (said, (tape, cause)))
 not_marked said tape input output AMemory cause = (refl, keeps_same output)
@@ -64,7 +64,10 @@ not_marked said tape input output AWord cause = absurd cause
 not_marked said tape input output (AScript why) cause = absurd cause
 not_marked said tape input output (ALine number) cause = absurd cause
 not_marked said tape input output AnInput cause = absurd cause
-not_marked said tape input output ASnapshot cause = absurd cause
+not_marked said tape input output ANoState cause = absurd cause
+not_marked said tape input output (ASnapshot why) cause = absurd cause
+not_marked said tape input output AWrongLength cause = absurd cause
+not_marked said tape input output ANoTime cause = absurd cause
 not_marked said tape input output AnOtherState cause = absurd cause
 not_marked said tape input output ARecordedGame cause = absurd cause
 not_marked said tape input output ATestFailed cause = absurd cause
@@ -79,7 +82,7 @@ limits_of replayed = record { beyond = 3200; replayed = replayed }
 -- why a recording is not taken for that of a game
 pub not_of : (rom : List ℕ) (game tape : DiskState) (replayed : ℕ) (why : VerifyError)
     → (game.honest → tape.honest → IsVerifyCause (Some (limits_of replayed)) rom game tape why) → IsOfVerifying (Some (limits_of replayed)) why
-    → IsNotOf rom game tape (fault_of_command (Verify why))
+    → IsNotOf rom game tape (refusal_of_command (Verify why))
 not_of rom game tape replayed (Save why) cause kind = (cause, kind)
 not_of rom game tape replayed (Taped why) cause kind = cause
 not_of rom game tape replayed (IsBehind count) cause kind = cause
@@ -93,7 +96,7 @@ module _ (rom : List ℕ) (accepted : IsAccepted rom) (game tape : FileDevice) (
   unbegun why cause = (refl, keeps_same output, (rom, accepted, (game, tape, cause)))
 
   -- a game that was not taken up, since its recording is not its own
-  pub not_belonging : (fault : Fault) → IsNotOf rom (file_disk game) (file_disk tape) fault
+  pub not_belonging : (fault : Refusal) → IsNotOf rom (file_disk game) (file_disk tape) fault
       → IsRecordRefused fault (record { before = input; since = input }) (record { before = output; since = output })
   not_belonging (ASession why) cause = inr (unbegun (Save why) cause.0)
   not_belonging (ARecording why) cause = inr (unbegun (Taped why) cause)
@@ -110,7 +113,10 @@ module _ (rom : List ℕ) (accepted : IsAccepted rom) (game tape : FileDevice) (
   not_belonging (AScript why) cause = absurd cause
   not_belonging (ALine number) cause = absurd cause
   not_belonging AnInput cause = absurd cause
-  not_belonging ASnapshot cause = absurd cause
+  not_belonging ANoState cause = absurd cause
+  not_belonging (ASnapshot why) cause = absurd cause
+  not_belonging AWrongLength cause = absurd cause
+  not_belonging ANoTime cause = absurd cause
   not_belonging AnOtherState cause = absurd cause
   not_belonging AnOtherRecording cause = absurd cause
   not_belonging ARecordedGame cause = absurd cause

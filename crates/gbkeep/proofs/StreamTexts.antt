@@ -8,7 +8,7 @@ use Rattle.streaming.specs.declared.error.StreamError.TheVariants.{Session, Line
 use Rattle.commands.specs.declared.error.CommandError.{CommandError}
 use Rattle.commands.specs.declared.error.CommandError.TheVariants.{Cart, Script, Session as NoGame, Stream, Recording, Verify, Debug, Memory as NoMemory, Output}
 use Rattle.streaming.specs.declared.obeying.End.{End}
-use Rattle.gbkeep.specs.Program.{IsStreamRefused, fault_of_command}
+use Rattle.gbkeep.specs.Program.{IsStreamRefused, refusal_of_command}
 use Rattle.gbkeep.specs.Request.{IsStreamedTo}
 use Rattle.commands.specs.Text.{call_on}
 use Rattle.commands.specs.Stream.{IsStreamPlayCause}
@@ -20,7 +20,7 @@ module _ (rom : List ℕ) (file left : FileDevice) (before_in since_in old new :
 
   pub stream_refused : (why : CommandError)
       → IsStreamPlayCause rom (record { before = before_in; since = since_in }) (call_on (file_disk file) (file_disk left) old new) why
-      → IsStreamRefused (fault_of_command why) (record { before = before_in; since = since_in }) (record { before = old; since = new })
+      → IsStreamRefused (refusal_of_command why) (record { before = before_in; since = since_in }) (record { before = old; since = new })
   stream_refused (Cart fault) cause = (cause.1, cause.2, (rom, cause.0))
   stream_refused (Stream (Session fault)) cause = (rom, (file, left, cause))
   stream_refused (Stream (Line number)) cause = streamed_to _ cause.0 cause.1

@@ -1,11 +1,9 @@
 -- The statuses of the program: 0 done, 1 refused, 2 words not understood.
-use Rattle.std.specs.Prelude.{◌≡◌, ◌≤◌, ◌↔◌, ◌≢◌, ◌⊎◌, ℕ, List, length, codes, Option, None, Some, Result, Ok, Err, ⊤, Bool, true, false, IfSome}
+use Rattle.std.specs.Prelude.{◌≡◌, ◌≤◌, ◌↔◌, ◌≢◌, ◌⊎◌, ◌++◌, ℕ, List, codes, Option, None, Some, Result, Ok, Err, ⊤, Bool, true, false, IfSome}
 use Rattle.std.specs.Borrow.{Bor}
 use Rattle.std.specs.Io.KnownBytes.{Appends, Keeps}
 use Rattle.exact_text.specs.Written.{AppendsProperPrefix}
 use Rattle.cartridge.specs.Accepted.{refusal_of}
-use Rattle.cartridge.specs.Header.{has_battery, ram_length_of}
-use Rattle.battery_files.specs.Importing.{is_taken_length}
 use Rattle.clap.specs.Words.{HasKind, fault_of, kind_of}
 use Rattle.clap.specs.declared.error.kind.ErrorKind.{ErrorKind}
 use Rattle.clap.specs.declared.error.kind.ErrorKind.TheVariants.{DisplayHelp, DisplayVersion, OutOfMemory}
@@ -13,14 +11,15 @@ use Rattle.command_line.specs.Commands.{gbkeep as command}
 use Rattle.command_line.specs.Words.{AsksFor, AskForSome, Word as WordText}
 use Rattle.command_line.specs.declared.Request.{Request}
 use Rattle.command_line.specs.declared.Request.TheVariants.{Info, List as Listing, Step, New, Play, Frame, Trace, Stream, NewRecording, Record, Recorded, Verify, Test, Show, Export, Import, Debug}
-use Rattle.session.specs.declared.error.SessionError.TheVariants.{Memory as GameMemory, Device as GameDevice, NoSession as GameNoSession, OtherCartridge as GameOtherCartridge, GenerationsUsedUp as GameGenerationsUsedUp, Broken as GameBroken, SaveFirst as GameSaveFirst, CountFull as GameCountFull, Output as GameOutput, TooSmall as GameTooSmall, Damaged as GameDamaged}
-use Rattle.sector_device.specs.declared.device.DeviceFault.TheVariants.{Device as FailedDevice, SizeNotSectors}
-use Rattle.recording.specs.declared.fault.RecordingFault.TheVariants.{Memory as TapeMemory, Device as TapeDevice, TooSmall as TapeTooSmall, NotBlank as TapeNotBlank, NoRecording as TapeNoRecording, OtherCartridge as TapeOtherCartridge, Full as TapeFull, Broken as TapeBroken}
+use Rattle.sector_device.specs.declared.device.DeviceFault.TheVariants.{Device as FailedDevice}
+use Rattle.session.specs.declared.error.SessionError.TheVariants.{Output as GameOutput}
+use Rattle.refusals.specs.Statuses.{status_of}
+use Rattle.refusals.specs.Texts.{text_of}
 use Rattle.gbkeep.specs.declared.words.Asked.{Asked}
 use Rattle.gbkeep.specs.declared.words.Asked.TheVariants.{Command, Help, Misuse, OutOfRange}
 use Rattle.commands.specs.declared.error.CommandError.{CommandError}
 use Rattle.commands.specs.declared.error.CommandError.TheVariants.{Cart as NoCartridge, Script as WrongScript, Session as NoGame, Stream as StreamEnded, Recording as NoTape, Verify as NotVerified, Debug as DebugEnded, Memory as CommandMemory, Output as CommandOutput}
-use Rattle.gbkeep.specs.declared.fault.Fault.{Fault}
+use Rattle.refusals.specs.declared.refusal.Refusal.{Refusal}
 use Rattle.test_run.specs.declared.error.TestError.TheVariants.{Cart as TestCart, Script as TestScript, Memory as TestMemory, Output as TestOutput}
 use Rattle.test_run.specs.declared.verdict.Verdict.TheVariants.{Passed, Failed, Undecided}
 use Rattle.test_run.specs.Refusals.{IsTested, IsTestRefused}
@@ -31,7 +30,7 @@ use Rattle.replaying.specs.Verifying.{IsVerifyCause}
 use Rattle.replaying.specs.declared.error.VerifyError.TheVariants.{Save as NoSave, Recording as NoRecording, Behind as RecordingBehind, Ahead as RecordingAhead, Memory as NoMemory, Differ as MachinesDiffer}
 use Rattle.streaming.specs.declared.obeying.End.TheVariants.{Whole, Wrong as WrongLine, Failed as FailedRead, Damaged as DamagedBytes, OtherCartridge as BytesOfAnother, NoMemory as LackedMemory}
 use Rattle.streaming.specs.declared.error.StreamError.TheVariants.{Session as StreamSession, Line as StreamLine, Input as StreamInput, Snapshot as StreamSnapshot, OtherCartridge as StreamOtherCartridge, Memory as StreamMemory}
-use Rattle.gbkeep.specs.declared.fault.Fault.TheVariants.{Cart, Memory, File, Output, Address, Word, Device, Script, Session, Line, Input, Snapshot, OtherState, Recording, Behind, Ahead, Differ, OtherRecording, RecordedGame, TestFailed, TestUndecided, NoBattery, BatteryLength}
+use Rattle.refusals.specs.declared.refusal.Refusal.TheVariants.{Cart, Memory, File, Output, Address, Word, Device, Script, Session, Line, Input, NoState, OtherState, Recording, Behind, Ahead, Differ, OtherRecording, RecordedGame, TestFailed, TestUndecided, NoBattery, BatteryLength}
 use Rattle.script.specs.Script.{IsRefused as IsScriptRefused}
 use Rattle.input_entries.specs.Inputs.{inputs}
 use Rattle.input_entries.specs.declared.Entry.{Entry}
@@ -43,57 +42,32 @@ use Rattle.recording_marks.specs.declared.text.Mark.TheVariants.{Remembered}
 use Rattle.commands.specs.Text.{Text, IsUnread, IsUnwritten}
 use Rattle.gbkeep.specs.Request.{HasAddress, HasDevice, HasScript, OfAFile, IsDone, IsCompared, GivesInputs, IsGameRefused, IsMemoryRefused, IsOutputRefused, IsRecordingRefused, IsTestDecided, IsWithoutBattery, IsOtherLength, IsScriptOf, imports_to_battery_name, IsStreamStopped, IsStreamedTo, IsNotBelonging, IsRecordStopped, IsRecordedTo, record_limits, IsDebugged, IsDebugStopped, IsDebugUnbegun, IsDebugNotTakenUp}
 
-abbrev pub status_of : Fault → ℕ
-status_of (Cart fault) = 1
-status_of Memory = 1
-status_of File = 1
-status_of Output = 1
-status_of Address = 2
-status_of Word = 2
-status_of (Device fault) = 1
-status_of (Script fault) = 1
-status_of (Session fault) = 1
-status_of (Line number) = 1
-status_of Input = 1
-status_of Snapshot = 1
-status_of OtherState = 1
-status_of (Recording fault) = 1
-status_of (Behind count) = 1
-status_of (Ahead count) = 1
-status_of Differ = 1
-status_of OtherRecording = 1
-status_of RecordedGame = 1
-status_of TestFailed = 1
-status_of TestUndecided = 1
-status_of NoBattery = 1
-status_of (BatteryLength found needed) = 1
-
 -- what a command that was refused is for the program
-abbrev pub fault_of_command : CommandError → Fault
-fault_of_command (NoCartridge fault) = Cart fault
-fault_of_command (WrongScript fault) = Script fault
-fault_of_command (NoGame fault) = Session fault
-fault_of_command (StreamEnded (StreamSession fault)) = Session fault
-fault_of_command (StreamEnded (StreamLine number)) = Line number
-fault_of_command (StreamEnded StreamInput) = Input
-fault_of_command (StreamEnded StreamSnapshot) = Snapshot
-fault_of_command (StreamEnded StreamOtherCartridge) = OtherState
-fault_of_command (StreamEnded StreamMemory) = Memory
-fault_of_command (NoTape fault) = Recording fault
-fault_of_command (NotVerified (NoSave fault)) = Session fault
-fault_of_command (NotVerified (NoRecording fault)) = Recording fault
-fault_of_command (NotVerified (RecordingBehind count)) = Behind count
-fault_of_command (NotVerified (RecordingAhead count)) = Ahead count
-fault_of_command (NotVerified NoMemory) = Memory
-fault_of_command (NotVerified MachinesDiffer) = Differ
-fault_of_command (DebugEnded DebugInput) = Input
-fault_of_command (DebugEnded DebugOutput) = Output
-fault_of_command (DebugEnded DebugMemory) = Memory
-fault_of_command CommandMemory = Memory
-fault_of_command CommandOutput = Output
+abbrev pub refusal_of_command : CommandError → Refusal
+refusal_of_command (NoCartridge fault) = Cart fault
+refusal_of_command (WrongScript fault) = Script fault
+refusal_of_command (NoGame fault) = Session fault
+refusal_of_command (StreamEnded (StreamSession fault)) = Session fault
+refusal_of_command (StreamEnded (StreamLine number)) = Line number
+refusal_of_command (StreamEnded StreamInput) = Input
+refusal_of_command (StreamEnded StreamSnapshot) = NoState
+refusal_of_command (StreamEnded StreamOtherCartridge) = OtherState
+refusal_of_command (StreamEnded StreamMemory) = Memory
+refusal_of_command (NoTape fault) = Recording fault
+refusal_of_command (NotVerified (NoSave fault)) = Session fault
+refusal_of_command (NotVerified (NoRecording fault)) = Recording fault
+refusal_of_command (NotVerified (RecordingBehind count)) = Behind count
+refusal_of_command (NotVerified (RecordingAhead count)) = Ahead count
+refusal_of_command (NotVerified NoMemory) = Memory
+refusal_of_command (NotVerified MachinesDiffer) = Differ
+refusal_of_command (DebugEnded DebugInput) = Input
+refusal_of_command (DebugEnded DebugOutput) = Output
+refusal_of_command (DebugEnded DebugMemory) = Memory
+refusal_of_command CommandMemory = Memory
+refusal_of_command CommandOutput = Output
 
 -- a test of this ROM with this script was done, or it was refused
-abbrev pub IsTestServed : (rom text : List ℕ) → (frames : ℕ) → Result Unit Fault → Option (List ℕ) → Option (List ℕ) → Type 0
+abbrev pub IsTestServed : (rom text : List ℕ) → (frames : ℕ) → Result Unit Refusal → Option (List ℕ) → Option (List ℕ) → Type 0
 IsTestServed rom text frames (Ok u) old new = IsTested rom text frames old new Passed
 IsTestServed rom text frames (Err TestFailed) old new = IsTested rom text frames old new Failed
 IsTestServed rom text frames (Err TestUndecided) old new = IsTested rom text frames old new Undecided
@@ -103,22 +77,14 @@ IsTestServed rom text frames (Err Memory) old new = IsTestRefused rom text frame
 IsTestServed rom text frames (Err Output) old new = IsTestRefused rom text frames old new TestOutput
 IsTestServed rom text frames (Err fault) old new = ⊥
 
--- why a battery file is not taken for this cartridge: no memory only where nothing is wrong with either
-abbrev pub IsBatteryFault : (rom battery : List ℕ) → Fault → Type 0
-IsBatteryFault rom battery Memory = (has_battery rom ≡ true) × (is_taken_length rom (length battery) ≡ true)
-IsBatteryFault rom battery NoBattery = has_battery rom ≡ false
-IsBatteryFault rom battery (BatteryLength found needed) =
-    (has_battery rom ≡ true) × (is_taken_length rom (length battery) ≡ false) × (found ≡ length battery) × (needed ≡ ram_length_of rom)
-IsBatteryFault rom battery fault = ⊥
-
 -- why the files of a game and its recording are not opened
-abbrev pub IsPairFault : Fault → Type 0
+abbrev pub IsPairFault : Refusal → Type 0
 IsPairFault File = ⊤
 IsPairFault (Device fault) = ⊤
 IsPairFault fault = ⊥
 
 -- why a recording is not taken for that of a game
-abbrev pub IsNotOf : (rom : List ℕ) → (game tape : DiskState) → Fault → Type 0
+abbrev pub IsNotOf : (rom : List ℕ) → (game tape : DiskState) → Refusal → Type 0
 IsNotOf rom game tape Memory = ⊤
 IsNotOf rom game tape (Session why) = (game.honest → tape.honest → IsVerifyCause (Some record_limits) rom game tape (NoSave why)) × (why ≢ GameOutput)
 IsNotOf rom game tape (Recording why) = game.honest → tape.honest → IsVerifyCause (Some record_limits) rom game tape (NoRecording why)
@@ -140,56 +106,15 @@ pub record IsRemembered (said : Option Mark) (count : ℕ) (known : Known) (tape
   pub digest_is : known.digest ≡ digest_of count tape
 
 -- why a recording is not taken for the one that the mark knows
-abbrev pub IsNotMarked : (said : Option Mark) → (tape : DiskState) → Fault → Type 0
+abbrev pub IsNotMarked : (said : Option Mark) → (tape : DiskState) → Refusal → Type 0
 IsNotMarked said tape Memory = ⊤
 IsNotMarked said tape (Device fault) = fault ≡ FailedDevice
 IsNotMarked said tape OtherRecording = tape.honest → IsOther (known_by said) (inputs (entries tape.sectors))
 IsNotMarked said tape fault = ⊥
 
--- its line on standard error; None for a fault of the cartridge, of a script, of a line of the input, or with a number, and of a game that
--- is damaged, whose text no definition gives
-abbrev pub line_of : Fault → Option (List ℕ)
-line_of (Cart fault) = None
-line_of Memory = Some (codes "gbkeep: no memory\n")
-line_of File = Some (codes "gbkeep: file failed\n")
-line_of Output = Some (codes "gbkeep: output failed\n")
-line_of Address = Some (codes "gbkeep: address\n")
-line_of Word = Some (codes "gbkeep: a word is not text\n")
-line_of (Device FailedDevice) = Some (codes "gbkeep: device failed\n")
-line_of (Device (SizeNotSectors size)) = None
-line_of (Script fault) = None
-line_of (Session GameMemory) = Some (codes "gbkeep: no memory\n")
-line_of (Session GameDevice) = Some (codes "gbkeep: device failed\n")
-line_of (Session GameNoSession) = Some (codes "gbkeep: no session\n")
-line_of (Session GameOtherCartridge) = Some (codes "gbkeep: other cartridge\n")
-line_of (Session GameGenerationsUsedUp) = Some (codes "gbkeep: generations used up\n")
-line_of (Session GameBroken) = Some (codes "gbkeep: broken, open it again\n")
-line_of (Session GameSaveFirst) = Some (codes "gbkeep: save first\n")
-line_of (Session GameCountFull) = Some (codes "gbkeep: count full\n")
-line_of (Session GameOutput) = Some (codes "gbkeep: output failed\n")
-line_of (Session (GameTooSmall needed)) = None
-line_of (Session (GameDamaged damage)) = None
-line_of (Line number) = None
-line_of Input = Some (codes "gbkeep: input failed\n")
-line_of Snapshot = Some (codes "gbkeep: damaged snapshot\n")
-line_of OtherState = Some (codes "gbkeep: other cartridge\n")
-line_of (Recording TapeMemory) = Some (codes "gbkeep: no memory\n")
-line_of (Recording TapeDevice) = Some (codes "gbkeep: device failed\n")
-line_of (Recording TapeTooSmall) = Some (codes "gbkeep: too small, 2 sectors needed\n")
-line_of (Recording TapeNotBlank) = Some (codes "gbkeep: not blank\n")
-line_of (Recording TapeNoRecording) = Some (codes "gbkeep: no recording\n")
-line_of (Recording TapeOtherCartridge) = Some (codes "gbkeep: other cartridge\n")
-line_of (Recording TapeFull) = Some (codes "gbkeep: recording full\n")
-line_of (Recording TapeBroken) = Some (codes "gbkeep: broken, open it again\n")
-line_of (Behind count) = None
-line_of (Ahead count) = None
-line_of Differ = Some (codes "gbkeep: machines differ\n")
-line_of OtherRecording = Some (codes "gbkeep: other recording\n")
-line_of RecordedGame = Some (codes "gbkeep: recorded game: play it by record\n")
-line_of TestFailed = Some (codes "gbkeep: test failed\n")
-line_of TestUndecided = Some (codes "gbkeep: test undecided\n")
-line_of NoBattery = Some (codes "gbkeep: no battery\n")
-line_of (BatteryLength found needed) = None
+-- its line on standard error
+abbrev pub line_of : Refusal → List ℕ
+line_of fault = codes "gbkeep: " ++ (text_of fault ++ codes "\n")
 
 -- what the program reads and writes
 pub record Exchange : Type 0 where
@@ -200,7 +125,7 @@ pub record Exchange : Type 0 where
   pub input_failed : Bool
   pub output_failed : Bool
 
--- the line went out, or a proper prefix of it; nothing is said of a line that is not given
+-- the line went out, or a proper prefix of it; nothing is said of a line that is not given, as of `clap`'s text
 abbrev pub HasLine : Option (List ℕ) → Option (List ℕ) → Option (List ℕ) → Type 0
 HasLine None old new = ⊤
 HasLine (Some line) old new = Appends old new line ⊎ AppendsProperPrefix old new line
@@ -218,18 +143,18 @@ abbrev pub KeepsAtMisuse : Option (List ℕ) → Option (List ℕ) → ℕ → T
 KeepsAtMisuse old new status = status ≡ 2 → Keeps old new
 
 -- a fault that is told as `output failed`
-abbrev pub IsOutputFault : Fault → Type 0
+abbrev pub IsOutputFault : Refusal → Type 0
 IsOutputFault Output = ⊤
 IsOutputFault (Session GameOutput) = ⊤
 IsOutputFault fault = ⊥
 
 -- one that says so of the output, not of a file that a picture is written to
-abbrev pub TellsOutput : Request → Fault → Type 0
+abbrev pub TellsOutput : Request → Refusal → Type 0
 TellsOutput (Frame cart save out) Output = ⊥
 TellsOutput request fault = IsOutputFault fault
 
 -- why a request was refused, and what went out then
-abbrev pub IsRefused : Request → Fault → Option (List ℕ) → Option (List ℕ) → Type 0
+abbrev pub IsRefused : Request → Refusal → Option (List ℕ) → Option (List ℕ) → Type 0
 IsRefused request (Cart fault) old new = HasAddress request × Keeps old new × ((rom : List ℕ) × (refusal_of rom ≡ Some fault))
 IsRefused request Memory old new = HasAddress request × IsMemoryRefused request old new
 IsRefused request File old new = HasAddress request × Keeps old new
@@ -249,12 +174,12 @@ IsRefused request (BatteryLength found needed) old new = IsOtherLength request f
 IsRefused request fault old new = ⊥
 
 -- a request that reads no input was done or refused
-abbrev pub IsServed : Request → Result Unit Fault → Option (List ℕ) → Option (List ℕ) → Type 0
+abbrev pub IsServed : Request → Result Unit Refusal → Option (List ℕ) → Option (List ℕ) → Type 0
 IsServed request (Ok u) old new = IsDone request old new
 IsServed request (Err fault) old new = IsRefused request fault old new
 
 -- why a stream was refused, and what was read and went out then
-abbrev pub IsStreamRefused : Fault → (input output : Text) → Type 0
+abbrev pub IsStreamRefused : Refusal → (input output : Text) → Type 0
 IsStreamRefused (Cart fault) input output = IsUnread input × IsUnwritten output × ((rom : List ℕ) × (refusal_of rom ≡ Some fault))
 IsStreamRefused Memory input output = (IsUnread input × IsUnwritten output) ⊎ IsStreamedTo LackedMemory input output
 IsStreamRefused File input output = IsUnread input × IsUnwritten output
@@ -262,18 +187,18 @@ IsStreamRefused (Device fault) input output = IsUnread input × IsUnwritten outp
 IsStreamRefused (Session why) input output = IsStreamStopped why input output
 IsStreamRefused (Line number) input output = IsStreamedTo (WrongLine number) input output
 IsStreamRefused Input input output = IsStreamedTo FailedRead input output
-IsStreamRefused Snapshot input output = IsStreamedTo DamagedBytes input output
+IsStreamRefused NoState input output = IsStreamedTo DamagedBytes input output
 IsStreamRefused OtherState input output = IsStreamedTo BytesOfAnother input output
 IsStreamRefused RecordedGame input output = IsUnread input × IsUnwritten output
 IsStreamRefused fault input output = ⊥
 
 -- a stream was done or refused
-abbrev pub IsStreamServed : Result Unit Fault → (input output : Text) → Type 0
+abbrev pub IsStreamServed : Result Unit Refusal → (input output : Text) → Type 0
 IsStreamServed (Ok u) input output = IsStreamedTo Whole input output
 IsStreamServed (Err fault) input output = IsStreamRefused fault input output
 
 -- why a recorded play was refused, and what was read and went out then
-abbrev pub IsRecordRefused : Fault → (input output : Text) → Type 0
+abbrev pub IsRecordRefused : Refusal → (input output : Text) → Type 0
 IsRecordRefused (Cart fault) input output = IsUnread input × IsUnwritten output × ((rom : List ℕ) × (refusal_of rom ≡ Some fault))
 IsRecordRefused Memory input output = IsUnread input × IsUnwritten output
 IsRecordRefused File input output = IsUnread input × IsUnwritten output
@@ -290,12 +215,12 @@ IsRecordRefused OtherRecording input output = IsUnread input × IsUnwritten outp
 IsRecordRefused fault input output = ⊥
 
 -- a recorded play was done or refused
-abbrev pub IsRecordServed : Result Unit Fault → (input output : Text) → Type 0
+abbrev pub IsRecordServed : Result Unit Refusal → (input output : Text) → Type 0
 IsRecordServed (Ok u) input output = IsRecordedTo Whole input output
 IsRecordServed (Err fault) input output = IsRecordRefused fault input output
 
 -- why a debugger was not begun or stopped, and what was read and went out then
-abbrev pub IsDebugRefused : (save : Option (Bor (List ℕ))) → Fault → (input output : Text) → Type 0
+abbrev pub IsDebugRefused : (save : Option (Bor (List ℕ))) → Refusal → (input output : Text) → Type 0
 IsDebugRefused save (Cart fault) input output = IsUnread input × IsUnwritten output × ((rom : List ℕ) × (refusal_of rom ≡ Some fault))
 IsDebugRefused save Memory input output = (IsUnread input × IsUnwritten output) ⊎ IsDebugStopped save DebugMemory input output
 IsDebugRefused save File input output = IsUnread input × IsUnwritten output
@@ -306,7 +231,7 @@ IsDebugRefused save Input input output = IsDebugStopped save DebugInput input ou
 IsDebugRefused save fault input output = ⊥
 
 -- a debugger answered all lines, or was refused
-abbrev pub IsDebugServed : (save : Option (Bor (List ℕ))) → Result Unit Fault → (input output : Text) → Type 0
+abbrev pub IsDebugServed : (save : Option (Bor (List ℕ))) → Result Unit Refusal → (input output : Text) → Type 0
 IsDebugServed save (Ok u) input output = IsDebugged save input output
 IsDebugServed save (Err fault) input output = IsDebugRefused save fault input output
 
@@ -331,7 +256,7 @@ IsDoneReading (Export cart save out) input output = IsUnread input × IsDone (Ex
 IsDoneReading (Import cart battery save sectors) input output = IsUnread input × IsDone (Import cart battery save sectors) output.before output.since
 IsDoneReading (Debug cart save) input output = IsDebugged save input output
 
-abbrev pub IsRefusedReading : Request → Fault → (input output : Text) → Type 0
+abbrev pub IsRefusedReading : Request → Refusal → (input output : Text) → Type 0
 IsRefusedReading (Info cart) fault input output = IsUnread input × IsRefused (Info cart) fault output.before output.since
 IsRefusedReading (Listing cart address count) fault input output = IsUnread input × IsRefused (Listing cart address count) fault output.before output.since
 IsRefusedReading (Step cart count) fault input output = IsUnread input × IsRefused (Step cart count) fault output.before output.since
@@ -350,7 +275,7 @@ IsRefusedReading (Export cart save out) fault input output = IsUnread input × I
 IsRefusedReading (Import cart battery save sectors) fault input output = IsUnread input × IsRefused (Import cart battery save sectors) fault output.before output.since
 IsRefusedReading (Debug cart save) fault input output = IsDebugRefused save fault input output
 
-abbrev pub IsServedReading : Request → Result Unit Fault → (input output : Text) → Type 0
+abbrev pub IsServedReading : Request → Result Unit Refusal → (input output : Text) → Type 0
 IsServedReading request (Ok u) input output = IsDoneReading request input output
 IsServedReading request (Err fault) input output = IsRefusedReading request fault input output
 
@@ -362,7 +287,7 @@ is_help kind = false
 
 -- What the words ask for: the request that they are, or, where they ask for none, `clap`'s text, which is help or says what is not
 -- understood; or memory was wanted.
-abbrev pub IsReading : List WordText → Result Asked Fault → Type 0
+abbrev pub IsReading : List WordText → Result Asked Refusal → Type 0
 IsReading words (Ok (Command request)) = AsksFor words request
 IsReading words (Ok (Help text)) = (¬ (AskForSome words)) × HasKind (fault_of command words) text × (is_help (kind_of text) ≡ true)
 IsReading words (Ok (Misuse text)) =
@@ -372,14 +297,14 @@ IsReading words (Err Memory) = ⊤
 IsReading words (Err fault) = ⊥
 
 -- what can come of words at all; one may also be no text
-abbrev pub IsPossible : Result Asked Fault → Type 0
+abbrev pub IsPossible : Result Asked Refusal → Type 0
 IsPossible (Ok asked) = ⊤
 IsPossible (Err Memory) = ⊤
 IsPossible (Err Word) = ⊤
 IsPossible (Err fault) = ⊥
 
 -- words that are not understood
-abbrev pub IsMisuse : Result Asked Fault → Type 0
+abbrev pub IsMisuse : Result Asked Refusal → Type 0
 IsMisuse (Ok (Command request)) = ¬ (HasAddress request)
 IsMisuse (Ok (Help text)) = ⊥
 IsMisuse (Ok (Misuse text)) = ⊤
@@ -387,40 +312,40 @@ IsMisuse (Ok OutOfRange) = ⊤
 IsMisuse (Err fault) = fault ≡ Word
 
 -- what was asked for was done; nothing is said of what goes out where that is help
-abbrev pub IsFulfilled : Result Asked Fault → (input output : Text) → Type 0
+abbrev pub IsFulfilled : Result Asked Refusal → (input output : Text) → Type 0
 IsFulfilled (Ok (Command request)) input output = IsDoneReading request input output
 IsFulfilled (Ok (Help text)) input output = IsUnread input
 IsFulfilled asked input output = ⊥
 
 -- standard error has nothing, or the warning of a name
-abbrev pub IsWarned : Result Asked Fault → (errors : Text) → Type 0
+abbrev pub IsWarned : Result Asked Refusal → (errors : Text) → Type 0
 IsWarned (Ok (Command request)) errors = HasWarned (imports_to_battery_name request) errors
 IsWarned asked errors = IsUnwritten errors
 
 -- this fault is why it was not done
-abbrev pub IsFaultOf : Result Asked Fault → Fault → (input output : Text) → Type 0
+abbrev pub IsFaultOf : Result Asked Refusal → Refusal → (input output : Text) → Type 0
 IsFaultOf (Ok (Command request)) fault input output = IsRefusedReading request fault input output
 IsFaultOf (Ok (Help text)) fault input output = IsUnread input × (fault ≡ Output)
 IsFaultOf (Err why) fault input output = IsUnread input × (fault ≡ why) × IsUnwritten output
 IsFaultOf asked fault input output = ⊥
 
 -- what it tells as failed has failed
-abbrev pub IsTrueOf : Result Asked Fault → Fault → Exchange → Type 0
+abbrev pub IsTrueOf : Result Asked Refusal → Refusal → Exchange → Type 0
 IsTrueOf (Ok (Command request)) fault run = (TellsOutput request fault → run.output_failed ≡ true) × (fault ≡ Input → run.input_failed ≡ true)
 IsTrueOf (Ok (Help text)) fault run = run.output_failed ≡ true
 IsTrueOf asked fault run = ⊤
 
 -- the line where the words are not understood; None where `clap` gives the text
-abbrev pub misuse_line : Result Asked Fault → Option (List ℕ)
-misuse_line (Ok (Command request)) = line_of Address
+abbrev pub misuse_line : Result Asked Refusal → Option (List ℕ)
+misuse_line (Ok (Command request)) = Some (line_of Address)
 misuse_line (Ok asked) = None
-misuse_line (Err fault) = line_of fault
+misuse_line (Err fault) = Some (line_of fault)
 
 -- The program ended with this status on what was asked for.
-pub record HasEnded (asked : Result Asked Fault) (run : Exchange) (status : ℕ) : Type 0 where
+pub record HasEnded (asked : Result Asked Refusal) (run : Exchange) (status : ℕ) : Type 0 where
   pub done : status ≡ 0 → IsFulfilled asked run.input run.output × IsWarned asked run.errors
   pub refused : status ≡ 1 →
-      (fault : Fault) × (status_of fault ≡ 1) × IsFaultOf asked fault run.input run.output × HasLine (line_of fault) run.errors.before run.errors.since
+      (fault : Refusal) × (status_of fault ≡ 1) × IsFaultOf asked fault run.input run.output × HasLine (Some (line_of fault)) run.errors.before run.errors.since
       × IsTrueOf asked fault run
   pub misuse : (status ≡ 2) ↔ IsMisuse asked
   pub misused : status ≡ 2 → IsUnread run.input × IsUnwritten run.output × HasLine (misuse_line asked) run.errors.before run.errors.since
@@ -428,7 +353,7 @@ pub record HasEnded (asked : Result Asked Fault) (run : Exchange) (status : ℕ)
 
 -- it ended so on what these words ask for
 abbrev pub Ends : List WordText → Exchange → ℕ → Type 0
-Ends words run status = (asked : Result Asked Fault) × IsReading words asked × HasEnded asked run status
+Ends words run status = (asked : Result Asked Refusal) × IsReading words asked × HasEnded asked run status
 
 -- it ended so on some words, or one of them is no text
 abbrev pub EndsOnSome : Exchange → ℕ → Type 0

@@ -39,7 +39,7 @@ use Rattle.test_run.specs.declared.verdict.Verdict.{Verdict}
 use Rattle.test_run.specs.declared.verdict.Verdict.TheVariants.{Passed}
 use Rattle.commands.specs.Show.{HasShown, IsShowCause}
 use Rattle.battery_files.specs.Exporting.{IsExportCause, IsExported}
-use Rattle.battery_files.specs.declared.error.ExportError.TheVariants.{Session as ExportSession}
+use Rattle.refusals.specs.declared.refusal.Refusal.TheVariants.{Session as NotLookedAt}
 use Rattle.battery_files.specs.Importing.{is_taken_length, start_with}
 use Rattle.gbkeep.specs.Beginning.{begun_line}
 use Rattle.commands.specs.Info.{info_of}
@@ -250,7 +250,7 @@ IsGameRefused (Trace cart save count) why old new =
     (rom : List ℕ) × OfAFileSince (λ was now. IsTraceCause rom count (call_on was now old new) (NoGame why))
 IsGameRefused (Verify cart save recording) why old new = IsCompared (Verify cart save recording) (NoSave why) old new
 IsGameRefused (Show cart save) why old new = (rom : List ℕ) × OfAFile (λ was. IsShowCause rom was old new (NoGame why))
-IsGameRefused (Export cart save out) why old new = Keeps old new × ((rom : List ℕ) × OfAFile (λ was. IsExportCause rom was (ExportSession why)))
+IsGameRefused (Export cart save out) why old new = Keeps old new × ((rom : List ℕ) × OfAFile (λ was. IsExportCause rom was (NotLookedAt why)))
 IsGameRefused (Import cart battery save sectors) why old new = Keeps old new
     × ((rom : List ℕ) × IsAccepted rom × IsBatteryTaken rom × IsNewGameCause (snapshot_length (ram_length_of rom)) (sectors_for rom sectors) why)
 IsGameRefused request why old new = ⊥

@@ -5,22 +5,23 @@ ghost use Rattle.std.specs.Io.KnownBytes.{Appends};
 ghost use Rattle.exact_text.specs.Written.{AppendsProperPrefix};
 ghost use Rattle.sector_device.specs.FileDevice.{file_disk};
 ghost use Rattle.cartridge.specs.Header.{ram_length_of};
+ghost use Rattle.battery_files.specs.Importing.{IsImportCause};
 ghost use Rattle.snapshot.specs.Encoding.{snapshot_length};
 ghost use Rattle.session.specs.Accessors.{device_of};
 ghost use Rattle.session.specs.Found.{IsNewGameCause};
-ghost use Rattle.gbkeep.specs.Program.{IsBatteryFault, IsOutputFault, IsServed};
+ghost use Rattle.gbkeep.specs.Program.{IsOutputFault, IsServed};
 ghost use Rattle.gbkeep.specs.Request.{IsBatteryTaken, IsImported, exported_line};
 
 use crate::begun::tell_begun;
-use crate::fault::Fault;
 use crate::files::{MOST_BATTERY, MOST_ROM, file_bytes};
 use crate::games::sectors_or;
 use crate::making::{MakingDevice, durable_file, new_device};
 use arrayvec::ArrayString;
-use battery_files::{ExportError, ImportError, export_battery, machine_with_battery};
+use battery_files::{export_battery, machine_with_battery};
 use cartridge::Cartridge;
 use command_line::Request;
 use exact_text::{Output, OutputFailed, number_digits, write_whole};
+use refusals::Refusal;
 use sector_device::FileDevice;
 use session::{Session, SessionError, new_game_from, sectors_needed};
 use std::alloc::Global;
@@ -36,7 +37,7 @@ pub(crate) fn export<R: Files<File = File> + AllocGlobal, O: Output>(
     save: &str,
     battery: &str,
     out: &mut O,
-) -> Result<(), Fault>
+) -> Result<(), Refusal>
     ensures served { IsServed (Request.Export cart.entry save.entry battery.entry) result (O.contents out.old)
         (O.contents out.new) }
     ensures output { IfErr result (λ fault. IsOutputFault fault → O.has_failed out.new ≡ true) }
@@ -45,18 +46,12 @@ pub(crate) fn export<R: Files<File = File> + AllocGlobal, O: Output>(
     let device = FileDevice::attach(rt, Path::new(save))?;
     let exported = match export_battery(rt.alloc(), device, rom) {
         Ok(exported) => exported,
-        Err(refused) => {
-            return Err(match refused.why {
-                ExportError::Cart(why) => Fault::Cart(why),
-                ExportError::NoBattery => Fault::NoBattery,
-                ExportError::Session(why) => Fault::Session(why),
-            });
-        }
+        Err(refused) => return Err(refused.why),
     };
     durable_file(rt, battery, exported.bytes.as_slice())?;
     match write_exported(out, exported.count) {
         Ok(()) => Ok(()),
-        Err(_) => Err(Fault::Output),
+        Err(_) => Err(Refusal::Output),
     }
 }
 
@@ -90,7 +85,7 @@ pub(crate) fn import<R: Files<File = File> + AllocGlobal, O: Output>(
     save: &str,
     sectors: Option<u32>,
     out: &mut O,
-) -> Result<(), Fault>
+) -> Result<(), Refusal>
     ensures served { IsServed (Request.Import cart.entry battery.entry save.entry sectors) result (O.contents out.old)
         (O.contents out.new) }
     ensures output { IfErr result (λ fault. IsOutputFault fault → O.has_failed out.new ≡ true) }
@@ -104,7 +99,7 @@ pub(crate) fn import<R: Files<File = File> + AllocGlobal, O: Output>(
     let need = sectors_needed(&cartridge);
     let sectors = sectors_or(sectors, need);
     if sectors < need {
-        return Err(Fault::Session(SessionError::TooSmall { need }));
+        return Err(Refusal::Session(SessionError::TooSmall { need }));
     }
     let MakingDevice { making, device } = new_device(rt, save, sectors)?;
     match begin_import(rt.alloc(), device, &cartridge, battery.as_slice()) {
@@ -116,24 +111,22 @@ pub(crate) fn import<R: Files<File = File> + AllocGlobal, O: Output>(
         }
         Err(why) => {
             making.give_up(rt);
-            Err(Fault::Session(why))
+            Err(Refusal::Session(why))
         }
     }
 }
 
 /// Whether a battery file is taken for the cartridge, or why it is not.
-fn taken(alloc: Global, cartridge: &Cartridge, battery: &[u8]) -> Result<(), Fault>
+fn taken(alloc: Global, cartridge: &Cartridge, battery: &[u8]) -> Result<(), Refusal>
     ensures ok { OnOk result (IsBatteryTaken cartridge.now) }
-    ensures err { IfErr result (IsBatteryFault cartridge.now battery.now) }
+    ensures err { IfErr result (IsImportCause cartridge.now battery.now) }
 {
     match machine_with_battery(alloc, cartridge, battery) {
         Ok(machine) => {
             drop(machine);
             Ok(())
         }
-        Err(ImportError::NoBattery) => Err(Fault::NoBattery),
-        Err(ImportError::Length { found, needed }) => Err(Fault::BatteryLength { found, needed }),
-        Err(ImportError::Memory) => Err(Fault::Memory),
+        Err(why) => Err(why),
     }
 }
 

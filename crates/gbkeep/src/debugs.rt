@@ -3,11 +3,12 @@
 ghost use Rattle.std.specs.Prelude.{◌≡◌, true, IfErr};
 ghost use Rattle.gbkeep.specs.Program.{IsDebugServed, IsOutputFault};
 
-use crate::fault::Fault;
 use crate::files::{MOST_ROM, file_bytes};
+use crate::reporting::refusal_of;
 use commands::{debug_game, debug_rom};
 use exact_text::Output;
 use input_lines::LineInput;
+use refusals::Refusal;
 use sector_device::FileDevice;
 use std::fs::File;
 use std::path::Path;
@@ -21,10 +22,10 @@ pub(crate) fn debug<R: Files<File = File> + AllocGlobal, I: LineInput, O: Output
     save: Option<&str>,
     input: &mut I,
     out: &mut O,
-) -> Result<(), Fault>
+) -> Result<(), Refusal>
     ensures served { IsDebugServed save.entry result (record { before = I.remaining input.old; since = I.remaining input.new })
         (record { before = O.contents out.old; since = O.contents out.new }) }
-    ensures input { IfErr result (λ fault. fault ≡ Fault.Input → I.has_failed input.new ≡ true) }
+    ensures input { IfErr result (λ fault. fault ≡ Refusal.Input → I.has_failed input.new ≡ true) }
     ensures output { IfErr result (λ fault. IsOutputFault fault → O.has_failed out.new ≡ true) }
 {
     let rom = file_bytes(rt, cart, MOST_ROM)?;
@@ -39,18 +40,18 @@ fn power_on<R: AllocGlobal, I: LineInput, O: Output>(
     rom: Vec<u8>,
     input: &mut I,
     out: &mut O,
-) -> Result<(), Fault>
+) -> Result<(), Refusal>
     ensures served { IsDebugServed None result (record {
       before = I.remaining input.old;
       since = I.remaining input.new;
     })
         (record { before = O.contents out.old; since = O.contents out.new }) }
-    ensures input { IfErr result (λ fault. fault ≡ Fault.Input → I.has_failed input.new ≡ true) }
+    ensures input { IfErr result (λ fault. fault ≡ Refusal.Input → I.has_failed input.new ≡ true) }
     ensures output { IfErr result (λ fault. IsOutputFault fault → O.has_failed out.new ≡ true) }
 {
     match debug_rom(rt.alloc(), rom, input, out) {
         Ok(()) => Ok(()),
-        Err(why) => Err(Fault::from(why)),
+        Err(why) => Err(refusal_of(why)),
     }
 }
 
@@ -60,18 +61,18 @@ fn resumed<R: Files<File = File> + AllocGlobal, I: LineInput, O: Output>(
     save: &str,
     input: &mut I,
     out: &mut O,
-) -> Result<(), Fault>
+) -> Result<(), Refusal>
     ensures served { IsDebugServed (Some save.entry) result (record {
       before = I.remaining input.old;
       since = I.remaining input.new;
     })
         (record { before = O.contents out.old; since = O.contents out.new }) }
-    ensures input { IfErr result (λ fault. fault ≡ Fault.Input → I.has_failed input.new ≡ true) }
+    ensures input { IfErr result (λ fault. fault ≡ Refusal.Input → I.has_failed input.new ≡ true) }
     ensures output { IfErr result (λ fault. IsOutputFault fault → O.has_failed out.new ≡ true) }
 {
     let device = FileDevice::attach(rt, Path::new(save))?;
     match debug_game(rt.alloc(), device, rom, input, out) {
         Ok(_left) => Ok(()),
-        Err(refused) => Err(Fault::from(refused.why)),
+        Err(refused) => Err(refusal_of(refused.why)),
     }
 }

@@ -2,7 +2,7 @@
 
 ghost use Rattle.std.specs.Prelude.{◌≡◌, ◌⊎◌, IfErr};
 
-use crate::fault::Fault;
+use refusals::Refusal;
 use std::fs::{self, File, Metadata, OpenOptions, TryLockError};
 use std::io::{self, ErrorKind, Read};
 use std::os::unix::fs::{FileExt, FileTypeExt, MetadataExt};
@@ -23,26 +23,26 @@ pub(crate) fn file_bytes<R: Files<File = File> + AllocGlobal>(
     rt: &R,
     path: &str,
     most: u64,
-) -> Result<Vec<u8>, Fault>
-    ensures { IfErr result (λ fault. (fault ≡ Fault.File) ⊎ (fault ≡ Fault.Memory)) }
+) -> Result<Vec<u8>, Refusal>
+    ensures { IfErr result (λ fault. (fault ≡ Refusal.File) ⊎ (fault ≡ Refusal.Memory)) }
 {
     not_a_pipe(rt, path)?;
     let Ok(file) = File::open(rt, path) else {
-        return Err(Fault::File);
+        return Err(Refusal::File);
     };
     let Ok(found) = file.metadata() else {
-        return Err(Fault::File);
+        return Err(Refusal::File);
     };
     if found.len() == 0 && is_of_the_system(rt, &found) {
-        return Err(Fault::File);
+        return Err(Refusal::File);
     }
     let wanted = found.len().min(most.saturating_add(1));
     let mut bytes = Vec::new(rt.alloc());
     match file.take(wanted).read_to_end(&mut bytes) {
         Ok(_) if bytes.len() as u64 == wanted => Ok(bytes),
-        Ok(_) => Err(Fault::File),
-        Err(error) if error.kind() == ErrorKind::OutOfMemory => Err(Fault::Memory),
-        Err(_) => Err(Fault::File),
+        Ok(_) => Err(Refusal::File),
+        Err(error) if error.kind() == ErrorKind::OutOfMemory => Err(Refusal::Memory),
+        Err(_) => Err(Refusal::File),
     }
 }
 
@@ -55,11 +55,11 @@ fn is_of_the_system<R: Files<File = File>>(rt: &R, found: &Metadata) -> bool {
 }
 
 /// Refuses what is there and no plain file: to open a pipe, or to read it, may take forever.
-pub(crate) fn not_a_pipe<R: Files<File = File>>(rt: &R, path: &str) -> Result<(), Fault>
-    ensures { IfErr result (λ fault. fault ≡ Fault.File) }
+pub(crate) fn not_a_pipe<R: Files<File = File>>(rt: &R, path: &str) -> Result<(), Refusal>
+    ensures { IfErr result (λ fault. fault ≡ Refusal.File) }
 {
     match fs::metadata(rt, path) {
-        Ok(found) if !found.is_file() => Err(Fault::File),
+        Ok(found) if !found.is_file() => Err(Refusal::File),
         _ => Ok(()),
     }
 }
@@ -73,10 +73,10 @@ pub(crate) fn emptied_file<R: Files<File = File>>(
     rt: &R,
     path: &str,
     kept: [&str; 2],
-) -> Result<File, Fault>
-    ensures { IfErr result (λ fault. fault ≡ Fault.File) }
+) -> Result<File, Refusal>
+    ensures { IfErr result (λ fault. fault ≡ Refusal.File) }
 {
-    emptied(rt, path, kept).map_err(|_| Fault::File)
+    emptied(rt, path, kept).map_err(|_| Refusal::File)
 }
 
 fn emptied<R: Files<File = File>>(rt: &R, path: &str, kept: [&str; 2]) -> io::Result<File> {

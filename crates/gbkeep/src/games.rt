@@ -4,15 +4,16 @@ ghost use Rattle.std.specs.Prelude.{◌≡◌, true, unwrap_or, IfErr};
 ghost use Rattle.gbkeep.specs.Program.{IsOutputFault, IsServed, IsStreamServed, TellsOutput};
 
 use crate::begun::tell_begun;
-use crate::fault::Fault;
 use crate::files::{MOST_ROM, MOST_SCRIPT, emptied_file, file_bytes, not_a_pipe};
 use crate::making::{MakingDevice, new_device};
 use crate::marks::unless_recorded;
+use crate::reporting::refusal_of;
 use cartridge::Cartridge;
 use command_line::Request;
 use commands::{play_and_draw, play_script, show_lines, stream_play, trace_lines};
 use exact_text::{CheckedOutput, Output};
 use input_lines::LineInput;
+use refusals::Refusal;
 use sector_device::FileDevice;
 use session::{SessionError, new_game, sectors_needed};
 use std::fs::File;
@@ -27,7 +28,7 @@ pub(crate) fn new<R: Files<File = File> + AllocGlobal, O: Output>(
     save: &str,
     sectors: Option<u32>,
     out: &mut O,
-) -> Result<(), Fault>
+) -> Result<(), Refusal>
     ensures served { IsServed (Request.New cart.entry save.entry sectors) result (O.contents out.old) (O.contents out.new) }
     ensures output { IfErr result (λ fault. IsOutputFault fault → O.has_failed out.new ≡ true) }
 {
@@ -36,7 +37,7 @@ pub(crate) fn new<R: Files<File = File> + AllocGlobal, O: Output>(
     let need = sectors_needed(&cartridge);
     let sectors = sectors_or(sectors, need);
     if sectors < need {
-        return Err(Fault::Session(SessionError::TooSmall { need }));
+        return Err(Refusal::Session(SessionError::TooSmall { need }));
     }
     let MakingDevice { making, device } = new_device(rt, save, sectors)?;
     match new_game(rt.alloc(), device, &cartridge) {
@@ -48,7 +49,7 @@ pub(crate) fn new<R: Files<File = File> + AllocGlobal, O: Output>(
         }
         Err(refused) => {
             making.give_up(rt);
-            Err(Fault::Session(refused.why))
+            Err(Refusal::Session(refused.why))
         }
     }
 }
@@ -71,7 +72,7 @@ pub(crate) fn play<R: Files<File = File> + AllocGlobal, O: Output>(
     save: &str,
     script: &str,
     out: &mut O,
-) -> Result<(), Fault>
+) -> Result<(), Refusal>
     ensures served { IsServed (Request.Play cart.entry save.entry script.entry) result (O.contents out.old)
         (O.contents out.new) }
     ensures output { IfErr result (λ fault. IsOutputFault fault → O.has_failed out.new ≡ true) }
@@ -86,7 +87,7 @@ pub(crate) fn play<R: Files<File = File> + AllocGlobal, O: Output>(
             drop(session);
             Ok(())
         }
-        Err(refused) => Err(Fault::from(refused.why)),
+        Err(refused) => Err(refusal_of(refused.why)),
     }
 }
 
@@ -98,7 +99,7 @@ pub(crate) fn frame<R: Files<File = File> + AllocGlobal, O: Output>(
     save: &str,
     picture: &str,
     out: &mut O,
-) -> Result<(), Fault>
+) -> Result<(), Refusal>
     ensures served { IsServed (Request.Frame cart.entry save.entry picture.entry) result (O.contents out.old)
         (O.contents out.new) }
     ensures output { IfErr result (λ fault.
@@ -110,7 +111,7 @@ pub(crate) fn frame<R: Files<File = File> + AllocGlobal, O: Output>(
     let mut drawn = CheckedOutput::new(picture);
     match play_and_draw(rt.alloc(), device, rom, b"", out, &mut drawn) {
         Ok(_left) => Ok(()),
-        Err(refused) => Err(Fault::from(refused.why)),
+        Err(refused) => Err(refusal_of(refused.why)),
     }
 }
 
@@ -120,7 +121,7 @@ pub(crate) fn show<R: Files<File = File> + AllocGlobal, O: Output>(
     cart: &str,
     save: &str,
     out: &mut O,
-) -> Result<(), Fault>
+) -> Result<(), Refusal>
     ensures served { IsServed (Request.Show cart.entry save.entry) result (O.contents out.old) (O.contents out.new) }
     ensures output { IfErr result (λ fault. IsOutputFault fault → O.has_failed out.new ≡ true) }
 {
@@ -128,7 +129,7 @@ pub(crate) fn show<R: Files<File = File> + AllocGlobal, O: Output>(
     let device = FileDevice::attach(rt, Path::new(save))?;
     match show_lines(rt.alloc(), device, rom, out) {
         Ok(_) => Ok(()),
-        Err(unshown) => Err(Fault::from(unshown.why)),
+        Err(unshown) => Err(refusal_of(unshown.why)),
     }
 }
 
@@ -139,7 +140,7 @@ pub(crate) fn trace<R: Files<File = File> + AllocGlobal, O: Output>(
     save: &str,
     count: u32,
     out: &mut O,
-) -> Result<(), Fault>
+) -> Result<(), Refusal>
     ensures served { IsServed (Request.Trace cart.entry save.entry count) result (O.contents out.old) (O.contents out.new) }
     ensures output { IfErr result (λ fault. IsOutputFault fault → O.has_failed out.new ≡ true) }
 {
@@ -147,7 +148,7 @@ pub(crate) fn trace<R: Files<File = File> + AllocGlobal, O: Output>(
     let device = FileDevice::attach(rt, Path::new(save))?;
     match trace_lines(rt.alloc(), device, rom, count, out) {
         Ok(_left) => Ok(()),
-        Err(untraced) => Err(Fault::from(untraced.why)),
+        Err(untraced) => Err(refusal_of(untraced.why)),
     }
 }
 
@@ -159,12 +160,12 @@ pub(crate) fn stream<R: Files<File = File> + AllocGlobal, I: LineInput, O: Outpu
     save: &str,
     input: &mut I,
     out: &mut O,
-) -> Result<(), Fault>
+) -> Result<(), Refusal>
     ensures served { IsStreamServed result (record {
       before = I.remaining input.old;
       since = I.remaining input.new;
     }) (record { before = O.contents out.old; since = O.contents out.new }) }
-    ensures input { IfErr result (λ fault. fault ≡ Fault.Input → I.has_failed input.new ≡ true) }
+    ensures input { IfErr result (λ fault. fault ≡ Refusal.Input → I.has_failed input.new ≡ true) }
     ensures output { IfErr result (λ fault. IsOutputFault fault → O.has_failed out.new ≡ true) }
 {
     let rom = file_bytes(rt, cart, MOST_ROM)?;
@@ -172,6 +173,6 @@ pub(crate) fn stream<R: Files<File = File> + AllocGlobal, I: LineInput, O: Outpu
     unless_recorded(rt, save)?;
     match stream_play(rt.alloc(), device, rom, input, out) {
         Ok(_left) => Ok(()),
-        Err(stopped) => Err(Fault::from(stopped.why)),
+        Err(stopped) => Err(refusal_of(stopped.why)),
     }
 }

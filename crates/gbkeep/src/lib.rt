@@ -6,7 +6,6 @@
 mod batteries;
 mod begun;
 mod debugs;
-mod fault;
 mod files;
 mod games;
 mod laws;
@@ -14,6 +13,7 @@ mod making;
 mod marks;
 pub mod program;
 mod recordings;
+mod reporting;
 mod testing;
 mod words;
 

@@ -3,7 +3,7 @@
 ghost use Rattle.std.specs.Prelude.{◌≡◌, ◌⊎◌, IfErr, IfOk, replicate};
 ghost use Rattle.sector_device.specs.FileDevice.{file_disk};
 
-use crate::fault::Fault;
+use refusals::Refusal;
 use sector_device::{DeviceFault, FileDevice};
 use std::fs::{self, File, Metadata, OpenOptions, TryLockError};
 use std::io::{self, ErrorKind, Write};
@@ -144,21 +144,21 @@ pub(crate) fn new_device<'a, R: Files<File = File> + AllocGlobal>(
     rt: &R,
     path: &'a str,
     sectors: u64,
-) -> Result<MakingDevice<'a>, Fault>
+) -> Result<MakingDevice<'a>, Refusal>
     ensures zero { IfOk result (λ made. (file_disk made.device).sectors ≡ replicate sectors (replicate 512 0)) }
     ensures honest { IfOk result (λ made. (file_disk made.device).honest) }
-    ensures fault { IfErr result (λ fault. (fault ≡ Fault.Memory) ⊎ (fault ≡ Fault.Device DeviceFault.Device)) }
+    ensures fault { IfErr result (λ fault. (fault ≡ Refusal.Memory) ⊎ (fault ≡ Refusal.Device DeviceFault.Device)) }
 {
     let making = match Making::begin(rt, path) {
         Ok(making) => making,
-        Err(fault) if fault.kind() == ErrorKind::OutOfMemory => return Err(Fault::Memory),
-        Err(_) => return Err(Fault::Device(DeviceFault::Device)),
+        Err(fault) if fault.kind() == ErrorKind::OutOfMemory => return Err(Refusal::Memory),
+        Err(_) => return Err(Refusal::Device(DeviceFault::Device)),
     };
     match FileDevice::create(rt, Path::new(making.part()), sectors) {
         Ok(device) => Ok(MakingDevice { making, device }),
         Err(_) => {
             making.give_up(rt);
-            Err(Fault::Device(DeviceFault::Device))
+            Err(Refusal::Device(DeviceFault::Device))
         }
     }
 }
@@ -169,13 +169,13 @@ pub(crate) fn durable_file<R: Files<File = File> + AllocGlobal>(
     rt: &R,
     path: &str,
     bytes: &[u8],
-) -> Result<(), Fault>
-    ensures { IfErr result (λ fault. (fault ≡ Fault.Memory) ⊎ (fault ≡ Fault.File)) }
+) -> Result<(), Refusal>
+    ensures { IfErr result (λ fault. (fault ≡ Refusal.Memory) ⊎ (fault ≡ Refusal.File)) }
 {
     match made_file(rt, path, bytes) {
         Ok(()) => Ok(()),
-        Err(fault) if fault.kind() == ErrorKind::OutOfMemory => Err(Fault::Memory),
-        Err(_) => Err(Fault::File),
+        Err(fault) if fault.kind() == ErrorKind::OutOfMemory => Err(Refusal::Memory),
+        Err(_) => Err(Refusal::File),
     }
 }
 
@@ -214,35 +214,35 @@ pub(crate) fn replaced_file<R: Files<File = File> + AllocGlobal>(
     rt: &R,
     path: &str,
     bytes: &[u8],
-) -> Result<(), Fault>
-    ensures { IfErr result (λ fault. (fault ≡ Fault.Memory) ⊎ (fault ≡ Fault.File)) }
+) -> Result<(), Refusal>
+    ensures { IfErr result (λ fault. (fault ≡ Refusal.Memory) ⊎ (fault ≡ Refusal.File)) }
 {
     for number in 0..MOST_NAMES {
         let Ok(part) = format!(in rt.alloc(); "{path}.{number}.part") else {
-            return Err(Fault::Memory);
+            return Err(Refusal::Memory);
         };
         match written_file(rt, part.as_str(), bytes) {
             Ok(()) => return renamed_file(rt, part.as_str(), path),
             Err(fault) if fault.kind() == ErrorKind::AlreadyExists => {}
             Err(_) => {
                 let _ = fs::remove_file(rt, part.as_str());
-                return Err(Fault::File);
+                return Err(Refusal::File);
             }
         }
     }
-    Err(Fault::File)
+    Err(Refusal::File)
 }
 
-fn renamed_file<R: Files<File = File>>(rt: &R, part: &str, path: &str) -> Result<(), Fault>
-    ensures { IfErr result (λ fault. fault ≡ Fault.File) }
+fn renamed_file<R: Files<File = File>>(rt: &R, part: &str, path: &str) -> Result<(), Refusal>
+    ensures { IfErr result (λ fault. fault ≡ Refusal.File) }
 {
     if fs::rename(rt, part, path).is_err() {
         let _ = fs::remove_file(rt, part);
-        return Err(Fault::File);
+        return Err(Refusal::File);
     }
     match sync_folder(rt, path) {
         Ok(()) => Ok(()),
-        Err(_) => Err(Fault::File),
+        Err(_) => Err(Refusal::File),
     }
 }
 

@@ -2,10 +2,10 @@
 
 ghost use Rattle.std.specs.Prelude.{◌≡◌, ◌⊎◌, IfErr};
 
-use crate::fault::Fault;
 use crate::files::file_bytes;
 use crate::making::replaced_file;
 use recording_marks::{Known, Mark, SECOND_LINE, known_line, read_mark};
+use refusals::Refusal;
 use std::alloc::AllocError;
 use std::fs::{self, File};
 use std::io::ErrorKind;
@@ -18,14 +18,14 @@ const MOST_MARK: u64 = 8_192;
 pub(crate) fn unless_recorded<R: Files<File = File> + AllocGlobal>(
     rt: &R,
     save: &str,
-) -> Result<(), Fault>
-    ensures { IfErr result (λ fault. (fault ≡ Fault.RecordedGame) ⊎ (fault ≡ Fault.Memory)) }
+) -> Result<(), Refusal>
+    ensures { IfErr result (λ fault. (fault ≡ Refusal.RecordedGame) ⊎ (fault ≡ Refusal.Memory)) }
 {
     let Ok(mark) = mark_of(rt, save) else {
-        return Err(Fault::Memory);
+        return Err(Refusal::Memory);
     };
     match fs::symlink_metadata(rt, mark.as_str()) {
-        Ok(_) => Err(Fault::RecordedGame),
+        Ok(_) => Err(Refusal::RecordedGame),
         Err(_) => Ok(()),
     }
 }
@@ -44,11 +44,11 @@ pub(crate) fn found_mark<R: Files<File = File> + AllocGlobal>(
     rt: &R,
     save: &str,
     recording: &str,
-) -> Result<FoundMark, Fault>
-    ensures { IfErr result (λ fault. (fault ≡ Fault.File) ⊎ (fault ≡ Fault.Memory)) }
+) -> Result<FoundMark, Refusal>
+    ensures { IfErr result (λ fault. (fault ≡ Refusal.File) ⊎ (fault ≡ Refusal.Memory)) }
 {
     let Ok(mark) = mark_of(rt, save) else {
-        return Err(Fault::Memory);
+        return Err(Refusal::Memory);
     };
     match fs::symlink_metadata(rt, mark.as_str()) {
         Ok(_) => {}
@@ -58,11 +58,11 @@ pub(crate) fn found_mark<R: Files<File = File> + AllocGlobal>(
                 names_it: false,
             });
         }
-        Err(_) => return Err(Fault::File),
+        Err(_) => return Err(Refusal::File),
     }
     let lines = file_bytes(rt, mark.as_str(), MOST_MARK)?;
     let Some(said) = read_mark(lines.as_slice()) else {
-        return Err(Fault::File);
+        return Err(Refusal::File);
     };
     let names_it = match lines.as_slice().strip_prefix(recording.as_bytes()) {
         Some(rest) => rest.starts_with(SECOND_LINE.as_bytes()),
@@ -80,15 +80,15 @@ pub(crate) fn mark<R: Files<File = File> + AllocGlobal>(
     save: &str,
     recording: &str,
     known: &Known,
-) -> Result<(), Fault>
-    ensures { IfErr result (λ fault. (fault ≡ Fault.File) ⊎ (fault ≡ Fault.Memory)) }
+) -> Result<(), Refusal>
+    ensures { IfErr result (λ fault. (fault ≡ Refusal.File) ⊎ (fault ≡ Refusal.Memory)) }
 {
     let (Ok(mark), Ok(lines)) = (mark_of(rt, save), lines_of(rt, recording, known)) else {
-        return Err(Fault::Memory);
+        return Err(Refusal::Memory);
     };
     match file_bytes(rt, mark.as_str(), MOST_MARK) {
         Ok(found) if found.as_slice() == lines.as_bytes() => Ok(()),
-        Err(Fault::Memory) => Err(Fault::Memory),
+        Err(Refusal::Memory) => Err(Refusal::Memory),
         _ => match replaced_file(rt, mark.as_str(), lines.as_bytes()) {
             Ok(()) => Ok(()),
             Err(fault) => Err(fault),

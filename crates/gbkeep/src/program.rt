@@ -6,10 +6,10 @@ ghost use Rattle.gbkeep.specs.Program.{Ends, EndsOnSome, HasEnded, HasWarned, Is
 
 use crate::batteries::{export, import};
 use crate::debugs::debug;
-use crate::fault::{DONE, Fault, NOT_UNDERSTOOD, report, write_line};
 use crate::files::{MOST_ROM, file_bytes};
 use crate::games::{frame, new, play, show, stream, trace};
 use crate::recordings::{new_recording, record, recorded, verify};
+use crate::reporting::{DONE, NOT_UNDERSTOOD, refusal_of, report, write_line};
 use crate::testing::test;
 use crate::words::{Asked, address_of, read_words};
 use clap::Error;
@@ -17,6 +17,7 @@ use command_line::Request;
 use commands::{info_lines, list_lines, step_line};
 use exact_text::Output;
 use input_lines::LineInput;
+use refusals::Refusal;
 use std::convert::AsStr;
 use std::fs::File;
 use std::rt::{Env, Files};
@@ -45,13 +46,13 @@ pub fn run_program<R: Env + Files<File = File> + AllocGlobal, I: LineInput, O: O
     }
 }
 
-fn words<R: Env + AllocGlobal>(rt: &R) -> Result<Vec<String>, Fault>
-    ensures { IfErr result (λ fault. (fault ≡ Fault.Memory) ⊎ (fault ≡ Fault.Word)) }
+fn words<R: Env + AllocGlobal>(rt: &R) -> Result<Vec<String>, Refusal>
+    ensures { IfErr result (λ fault. (fault ≡ Refusal.Memory) ⊎ (fault ≡ Refusal.Word)) }
 {
     match env::args(rt) {
-        Ok(args) => args.collect(rt.alloc()).map_err(|_| Fault::Memory),
-        Err(error) if error.kind() == io::ErrorKind::OutOfMemory => Err(Fault::Memory),
-        Err(_) => Err(Fault::Word),
+        Ok(args) => args.collect(rt.alloc()).map_err(|_| Refusal::Memory),
+        Err(error) if error.kind() == io::ErrorKind::OutOfMemory => Err(Refusal::Memory),
+        Err(_) => Err(Refusal::Word),
     }
 }
 
@@ -84,7 +85,7 @@ pub fn run<R: Files<File = File> + AllocGlobal, S: AsStr, I: LineInput, O: Outpu
 /// Answers what was read of the words.
 fn answer<R: Files<File = File> + AllocGlobal, I: LineInput, O: Output, E: Output>(
     rt: &R,
-    asked: Result<Asked<'_>, Fault>,
+    asked: Result<Asked<'_>, Refusal>,
     input: &mut I,
     out: &mut O,
     err: &mut E,
@@ -152,13 +153,13 @@ fn is_battery_name(name: &[u8]) -> bool
     name.ends_with(b".sav") || name.ends_with(b".srm")
 }
 
-fn write_help<O: Output>(text: Error, out: &mut O) -> Result<(), Fault>
-    ensures fault { IfErr result (λ fault. fault ≡ Fault.Output) }
+fn write_help<O: Output>(text: Error, out: &mut O) -> Result<(), Refusal>
+    ensures fault { IfErr result (λ fault. fault ≡ Refusal.Output) }
     ensures failed { OnErr result (O.has_failed out.new ≡ true) }
 {
     match write!(out, "{text}") {
         Ok(()) => Ok(()),
-        Err(_) => Err(Fault::Output),
+        Err(_) => Err(Refusal::Output),
     }
 }
 
@@ -167,13 +168,13 @@ fn serve<R: Files<File = File> + AllocGlobal, I: LineInput, O: Output>(
     request: Request<'_>,
     input: &mut I,
     out: &mut O,
-) -> Result<(), Fault>
+) -> Result<(), Refusal>
     ensures served { IsServedReading request.entry result (record {
       before = I.remaining input.old;
       since = I.remaining input.new;
     })
         (record { before = O.contents out.old; since = O.contents out.new }) }
-    ensures input { IfErr result (λ fault. fault ≡ Fault.Input → I.has_failed input.new ≡ true) }
+    ensures input { IfErr result (λ fault. fault ≡ Refusal.Input → I.has_failed input.new ≡ true) }
     ensures output { IfErr result (λ fault. TellsOutput request.entry fault → O.has_failed out.new ≡ true) }
 {
     match request {
@@ -238,13 +239,15 @@ fn info<R: Files<File = File> + AllocGlobal, O: Output>(
     rt: &R,
     cart: &str,
     out: &mut O,
-) -> Result<(), Fault>
+) -> Result<(), Refusal>
     ensures served { IsServed (Request.Info cart.entry) result (O.contents out.old) (O.contents out.new) }
     ensures output { IfErr result (λ fault. IsOutputFault fault → O.has_failed out.new ≡ true) }
 {
     let rom = file_bytes(rt, cart, MOST_ROM)?;
-    info_lines(rom, out)?;
-    Ok(())
+    match info_lines(rom, out) {
+        Ok(()) => Ok(()),
+        Err(why) => Err(refusal_of(why)),
+    }
 }
 
 fn list<R: Files<File = File> + AllocGlobal, O: Output>(
@@ -253,16 +256,18 @@ fn list<R: Files<File = File> + AllocGlobal, O: Output>(
     address: &str,
     count: u32,
     out: &mut O,
-) -> Result<(), Fault>
+) -> Result<(), Refusal>
     ensures served { IsServed (Request.List cart.entry address.entry count) result (O.contents out.old) (O.contents out.new) }
     ensures output { IfErr result (λ fault. IsOutputFault fault → O.has_failed out.new ≡ true) }
 {
     let Some(first) = address_of(address) else {
-        return Err(Fault::Address);
+        return Err(Refusal::Address);
     };
     let rom = file_bytes(rt, cart, MOST_ROM)?;
-    list_lines(rt.alloc(), rom, first, count, out)?;
-    Ok(())
+    match list_lines(rt.alloc(), rom, first, count, out) {
+        Ok(()) => Ok(()),
+        Err(why) => Err(refusal_of(why)),
+    }
 }
 
 fn step<R: Files<File = File> + AllocGlobal, O: Output>(
@@ -270,11 +275,13 @@ fn step<R: Files<File = File> + AllocGlobal, O: Output>(
     cart: &str,
     count: u32,
     out: &mut O,
-) -> Result<(), Fault>
+) -> Result<(), Refusal>
     ensures served { IsServed (Request.Step cart.entry count) result (O.contents out.old) (O.contents out.new) }
     ensures output { IfErr result (λ fault. IsOutputFault fault → O.has_failed out.new ≡ true) }
 {
     let rom = file_bytes(rt, cart, MOST_ROM)?;
-    step_line(rt.alloc(), rom, count, out)?;
-    Ok(())
+    match step_line(rt.alloc(), rom, count, out) {
+        Ok(()) => Ok(()),
+        Err(why) => Err(refusal_of(why)),
+    }
 }

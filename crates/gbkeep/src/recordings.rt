@@ -7,10 +7,10 @@ ghost use Rattle.input_entries.specs.Inputs.{inputs};
 ghost use Rattle.recording.specs.Recorded.{entries};
 
 use crate::begun::tell_begun;
-use crate::fault::Fault;
 use crate::files::{MOST_ROM, file_bytes};
 use crate::making::{MakingDevice, new_device};
 use crate::marks::{FoundMark, found_mark, mark};
+use crate::reporting::refusal_of;
 use cartridge::Cartridge;
 use command_line::Request;
 use commands::{CommandError, recorded_lines, verify_line};
@@ -19,6 +19,7 @@ use input_lines::LineInput;
 use recorded_play::{RecordError, record as record_play};
 use recording::{RecordingFault, create_recording};
 use recording_marks::{Known, Mark, MarkFault, known_of};
+use refusals::Refusal;
 use replaying::{Limits, verify as verify_within};
 use sector_device::{DeviceFault, FileDevice};
 use std::alloc::Global;
@@ -44,7 +45,7 @@ pub(crate) fn new_recording<R: Files<File = File> + AllocGlobal, O: Output>(
     recording: &str,
     sectors: u32,
     out: &mut O,
-) -> Result<(), Fault>
+) -> Result<(), Refusal>
     ensures served { IsServed (Request.NewRecording cart.entry recording.entry sectors) result (O.contents out.old)
         (O.contents out.new) }
     ensures output { IfErr result (λ fault. IsOutputFault fault → O.has_failed out.new ≡ true) }
@@ -52,14 +53,14 @@ pub(crate) fn new_recording<R: Files<File = File> + AllocGlobal, O: Output>(
     let rom = file_bytes(rt, cart, MOST_ROM)?;
     let cartridge = Cartridge::read(rom)?;
     if sectors < FEWEST_SECTORS {
-        return Err(Fault::Recording(RecordingFault::TooSmall));
+        return Err(Refusal::Recording(RecordingFault::TooSmall));
     }
     let MakingDevice { making, device } = new_device(rt, recording, u64::from(sectors))?;
     match create_recording(rt.alloc(), device, cartridge.digest()) {
         Ok(_recording) => tell_begun(rt, making, None, out),
         Err(refused) => {
             making.give_up(rt);
-            Err(Fault::Recording(refused.why))
+            Err(Refusal::Recording(refused.why))
         }
     }
 }
@@ -74,12 +75,12 @@ pub(crate) fn record<R: Files<File = File> + AllocGlobal, I: LineInput, O: Outpu
     recording: &str,
     input: &mut I,
     out: &mut O,
-) -> Result<(), Fault>
+) -> Result<(), Refusal>
     ensures served { IsRecordServed result (record {
       before = I.remaining input.old;
       since = I.remaining input.new;
     }) (record { before = O.contents out.old; since = O.contents out.new }) }
-    ensures input { IfErr result (λ fault. fault ≡ Fault.Input → I.has_failed input.new ≡ true) }
+    ensures input { IfErr result (λ fault. fault ≡ Refusal.Input → I.has_failed input.new ≡ true) }
     ensures output { IfErr result (λ fault. IsOutputFault fault → O.has_failed out.new ≡ true) }
 {
     let rom = file_bytes(rt, cart, MOST_ROM)?;
@@ -112,11 +113,11 @@ pub(crate) fn record<R: Files<File = File> + AllocGlobal, I: LineInput, O: Outpu
             Ok(())
         }
         Err(refused) => Err(match refused.why {
-            RecordError::Session(why) => Fault::Session(why),
-            RecordError::Recording(why) => Fault::Recording(why),
-            RecordError::Behind(count) => Fault::Behind(count),
-            RecordError::Line(number) => Fault::Line(number),
-            RecordError::Input => Fault::Input,
+            RecordError::Session(why) => Refusal::Session(why),
+            RecordError::Recording(why) => Refusal::Recording(why),
+            RecordError::Behind(count) => Refusal::Behind(count),
+            RecordError::Line(number) => Refusal::Line(number),
+            RecordError::Input => Refusal::Input,
         }),
     }
 }
@@ -136,7 +137,7 @@ fn belonging(
     pair: Pair,
     cartridge: &Cartridge,
     replayed: u64,
-) -> Result<Compared, Fault>
+) -> Result<Compared, Refusal>
     ensures { IfErr result (IsNotOf cartridge.now (file_disk pair.save) (file_disk pair.recording)) }
 {
     let limits = Limits {
@@ -150,7 +151,7 @@ fn belonging(
             recording: found.recording,
             count,
         }),
-        Err(why) => Err(Fault::from(CommandError::Verify(why))),
+        Err(why) => Err(refusal_of(CommandError::Verify(why))),
     }
 }
 
@@ -160,7 +161,7 @@ fn certain(
     game: Compared,
     cartridge: &Cartridge,
     found: &FoundMark,
-) -> Result<Compared, Fault>
+) -> Result<Compared, Refusal>
     ensures { IfErr result (IsNotOf cartridge.now (file_disk game.save) (file_disk game.recording)) }
 {
     if !is_in_doubt(found, game.count) {
@@ -207,7 +208,7 @@ fn marked(
     game: Compared,
     cartridge: &Cartridge,
     said: Option<Mark>,
-) -> Result<KnownGame, Fault>
+) -> Result<KnownGame, Refusal>
     ensures known { IfOk result (λ marked. (file_disk game.recording).honest → IsRemembered said game.count marked.known
         (inputs (entries (file_disk game.recording).sectors))) }
     ensures cause { IfErr result (IsNotMarked said (file_disk game.recording)) }
@@ -226,9 +227,9 @@ fn marked(
             recording: found.device,
             known,
         }),
-        Err(MarkFault::Other) => Err(Fault::OtherRecording),
-        Err(MarkFault::Recording(RecordingFault::Memory)) => Err(Fault::Memory),
-        Err(MarkFault::Recording(_)) => Err(Fault::Device(DeviceFault::Device)),
+        Err(MarkFault::Other) => Err(Refusal::OtherRecording),
+        Err(MarkFault::Recording(RecordingFault::Memory)) => Err(Refusal::Memory),
+        Err(MarkFault::Recording(_)) => Err(Refusal::Device(DeviceFault::Device)),
     }
 }
 
@@ -238,7 +239,7 @@ pub(crate) fn recorded<R: Files<File = File> + AllocGlobal, O: Output>(
     cart: &str,
     recording: &str,
     out: &mut O,
-) -> Result<(), Fault>
+) -> Result<(), Refusal>
     ensures served { IsServed (Request.Recorded cart.entry recording.entry) result (O.contents out.old) (O.contents out.new) }
     ensures output { IfErr result (λ fault. IsOutputFault fault → O.has_failed out.new ≡ true) }
 {
@@ -246,7 +247,7 @@ pub(crate) fn recorded<R: Files<File = File> + AllocGlobal, O: Output>(
     let device = attached(rt, recording)?;
     match recorded_lines(rt.alloc(), device, rom, out) {
         Ok(_) => Ok(()),
-        Err(refused) => Err(Fault::from(refused.why)),
+        Err(refused) => Err(refusal_of(refused.why)),
     }
 }
 
@@ -257,7 +258,7 @@ pub(crate) fn verify<R: Files<File = File> + AllocGlobal, O: Output>(
     save: &str,
     recording: &str,
     out: &mut O,
-) -> Result<(), Fault>
+) -> Result<(), Refusal>
     ensures served { IsServed (Request.Verify cart.entry save.entry recording.entry) result (O.contents out.old)
         (O.contents out.new) }
     ensures output { IfErr result (λ fault. IsOutputFault fault → O.has_failed out.new ≡ true) }
@@ -267,7 +268,7 @@ pub(crate) fn verify<R: Files<File = File> + AllocGlobal, O: Output>(
     let compared = verify_line(rt.alloc(), pair.save, pair.recording, rom, out);
     match compared.answer {
         Ok(_count) => Ok(()),
-        Err(why) => Err(Fault::from(why)),
+        Err(why) => Err(refusal_of(why)),
     }
 }
 
@@ -283,11 +284,11 @@ pub(crate) fn game_and_recording<R: Files<File = File> + AllocGlobal>(
     rt: &R,
     save: &str,
     recording: &str,
-) -> Result<Pair, Fault>
+) -> Result<Pair, Refusal>
     ensures { IfErr result IsPairFault }
 {
     if are_one_file(rt, save, recording) {
-        return Err(Fault::File);
+        return Err(Refusal::File);
     }
     let save = attached(rt, save)?;
     let recording = attached(rt, recording)?;

@@ -3,10 +3,10 @@
 ghost use Rattle.std.specs.Prelude.{◌≡◌, true, IfErr};
 ghost use Rattle.gbkeep.specs.Program.{IsOutputFault, IsServed, IsTestServed};
 
-use crate::fault::Fault;
 use crate::files::{MOST_ROM, MOST_SCRIPT, file_bytes};
 use command_line::Request;
 use exact_text::Output;
+use refusals::Refusal;
 use std::fs::File;
 use std::rt::Files;
 use test_run::{TestError, Verdict, run_test};
@@ -18,7 +18,7 @@ pub(crate) fn test<R: Files<File = File> + AllocGlobal, O: Output>(
     frames: u32,
     script: Option<&str>,
     out: &mut O,
-) -> Result<(), Fault>
+) -> Result<(), Refusal>
     ensures served { IsServed (Request.Test cart.entry frames script.entry) result (O.contents out.old) (O.contents out.new) }
     ensures output { IfErr result (λ fault. IsOutputFault fault → O.has_failed out.new ≡ true) }
 {
@@ -39,17 +39,17 @@ fn test_with<R: AllocGlobal, O: Output>(
     script: &[u8],
     frames: u32,
     out: &mut O,
-) -> Result<(), Fault>
+) -> Result<(), Refusal>
     ensures served { IsTestServed rom.items script.now frames result (O.contents out.old) (O.contents out.new) }
     ensures output { IfErr result (λ fault. IsOutputFault fault → O.has_failed out.new ≡ true) }
 {
     match run_test(rt.alloc(), rom, script, frames, out) {
         Ok(Verdict::Passed) => Ok(()),
-        Ok(Verdict::Failed) => Err(Fault::TestFailed),
-        Ok(Verdict::Undecided) => Err(Fault::TestUndecided),
-        Err(TestError::Cart(why)) => Err(Fault::Cart(why)),
-        Err(TestError::Script(why)) => Err(Fault::Script(why)),
-        Err(TestError::Memory) => Err(Fault::Memory),
-        Err(TestError::Output) => Err(Fault::Output),
+        Ok(Verdict::Failed) => Err(Refusal::TestFailed),
+        Ok(Verdict::Undecided) => Err(Refusal::TestUndecided),
+        Err(TestError::Cart(why)) => Err(Refusal::Cart(why)),
+        Err(TestError::Script(why)) => Err(Refusal::Script(why)),
+        Err(TestError::Memory) => Err(Refusal::Memory),
+        Err(TestError::Output) => Err(Refusal::Output),
     }
 }

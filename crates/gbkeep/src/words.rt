@@ -9,10 +9,10 @@ ghost use Rattle.command_line.specs.Words.{AskForSome, Word as WordText};
 ghost use Rattle.gbkeep.specs.Program.{IsReading};
 ghost use Rattle.gbkeep.specs.Request.{IsAddress};
 
-use crate::fault::Fault;
 use clap::Error;
 use clap::error::ErrorKind;
 use command_line::{Request, request_of};
+use refusals::Refusal;
 use std::alloc::Global;
 use std::convert::AsStr;
 
@@ -29,7 +29,7 @@ pub(crate) enum Asked<'a> {
 }
 
 /// What the words ask for, the first of which is the program's own name. `Err`: `Memory`.
-pub(crate) fn read_words<'a, S: AsStr>(alloc: Global, words: &'a [S]) -> Result<Asked<'a>, Fault>
+pub(crate) fn read_words<'a, S: AsStr>(alloc: Global, words: &'a [S]) -> Result<Asked<'a>, Refusal>
     ensures { IsReading (map S.text words.entry.now) result }
 {
     match request_of(alloc, words) {
@@ -40,12 +40,12 @@ pub(crate) fn read_words<'a, S: AsStr>(alloc: Global, words: &'a [S]) -> Result<
 }
 
 /// What `clap` answers where it finds no request.
-fn read_error<'a>(error: Error) -> Result<Asked<'a>, Fault>
+fn read_error<'a>(error: Error) -> Result<Asked<'a>, Refusal>
     ensures { (words : List WordText) → HasKind (fault_of command words) error
         → (AskForSome words → kind_of error ≡ ErrorKind.OutOfMemory) → IsReading words result }
 {
     if error.kind() == ErrorKind::OutOfMemory {
-        return Err(Fault::Memory);
+        return Err(Refusal::Memory);
     }
     if error.use_stderr() {
         Ok(Asked::Misuse(error))

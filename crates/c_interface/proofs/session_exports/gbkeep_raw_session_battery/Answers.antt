@@ -11,5 +11,5 @@ returns-clause-battery c = λ code.
     let old : c.deref.result.now ≡ c.args.session.value = c.deref.ensures ∙ c.into_box-game.ensures in
     elim c.match-battery.branch [
       | in-Ok w ↦ subst (λ (g : Game). (has_battery (rom_of g.session) ≡ true) × (c.battery.new.bytes ≡ battery_of (machine_of g.session))) old w.in-Ok.ensures.battery
-      | in-Err w ↦ absurd (w.game_code-code.ensures.refused (sym w.code-is ∙ code))
+      | in-Err w ↦ absurd (w.code-code.ensures.refused (sym w.code-is ∙ code))
     ]

@@ -15,6 +15,6 @@ returns-clause-code c =
       given = subst (λ (g : Game). IsStateAnswer g.cartridge c.args.bytes.now (input_answer (is_broken g.session) (length (pending_of g.session)) (acknowledged_of g.session + length (pending_of g.session))) c.restore.result) old c.restore.ensures.answer;
       is = elim c.match-restore.branch [
         | in-Ok w ↦ w.code-is ∙ sym (ap answer_code w.in-Ok.is)
-        | in-Err w ↦ w.code-is ∙ w.session_code-code.ensures.code ∙ sym (ap answer_code w.in-Err.is)
+        | in-Err w ↦ w.code-is ∙ w.code-code.ensures.code ∙ sym (ap answer_code w.in-Err.is)
       ];
     }

@@ -1,7 +1,7 @@
 use Rattle.std.proofs.Common.{subst, sym}
 use Rattle.command_line.specs.declared.Request.TheVariants.{Frame}
 use Rattle.gbkeep.specs.Program.{IsRefused}
-use Rattle.gbkeep.specs.declared.fault.Fault.{Fault}
+use Rattle.refusals.specs.declared.refusal.Refusal.{Refusal}
 use Rattle.gbkeep.proofs.CommandTexts.{frame_refused}
 use Rattle.gbkeep.proofs.games.frame.Goals as goal
 
@@ -11,5 +11,5 @@ returns-in-Ok-clause-served g c =
 
 pub returns-clause-served : goal.returns-clause-served
 returns-clause-served g c =
-    subst (λ (fault : Fault). IsRefused (Frame c.args.cart c.args.save c.args.picture) fault (g.O.Output.contents c.args.out.now) (g.O.Output.contents c.play_and_draw.new.report)) (sym c.from.ensures)
+    subst (λ (fault : Refusal). IsRefused (Frame c.args.cart c.args.save c.args.picture) fault (g.O.Output.contents c.args.out.now) (g.O.Output.contents c.play_and_draw.new.report)) (sym c.refusal_of.ensures)
     (frame_refused c.args.cart c.args.save c.args.picture c.in_ok-rom.rom.items c.in_ok-device.device c.in-Err.refused.device _ _ c.in-Err.refused.why c.in-Err.ensures.plays.cause)

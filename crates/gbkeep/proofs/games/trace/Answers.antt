@@ -1,7 +1,7 @@
 use Rattle.std.proofs.Common.{subst, sym}
 use Rattle.command_line.specs.declared.Request.TheVariants.{Trace}
 use Rattle.gbkeep.specs.Program.{IsRefused}
-use Rattle.gbkeep.specs.declared.fault.Fault.{Fault}
+use Rattle.refusals.specs.declared.refusal.Refusal.{Refusal}
 use Rattle.gbkeep.proofs.CommandTexts.{trace_refused}
 use Rattle.gbkeep.proofs.games.trace.Goals as goal
 
@@ -10,5 +10,5 @@ returns-in-Ok-clause-served g c = (c.in_ok-rom.rom.items, (c.in-Ok.ensures.accep
 
 pub returns-in-Err-clause-served : goal.returns-in-Err-clause-served
 returns-in-Err-clause-served g c =
-    subst (λ (fault : Fault). IsRefused (Trace c.args.cart c.args.save c.args.count) fault (g.O.Output.contents c.args.out.now) (g.O.Output.contents c.trace_lines.new.out)) (sym c.from.ensures)
+    subst (λ (fault : Refusal). IsRefused (Trace c.args.cart c.args.save c.args.count) fault (g.O.Output.contents c.args.out.now) (g.O.Output.contents c.trace_lines.new.out)) (sym c.refusal_of.ensures)
     (trace_refused c.args.cart c.args.save c.args.count c.in_ok-rom.rom.items c.in_ok-device.device c.in-Err.untraced.device _ _ c.in-Err.untraced.why c.in-Err.ensures.cause)

@@ -3,7 +3,7 @@ use Rattle.gbkeep.specs.Program.{HasEnded}
 use Rattle.gbkeep.specs.Program.{Exchange}
 use Rattle.gbkeep.specs.declared.words.Asked.{Asked}
 use Rattle.gbkeep.specs.declared.words.Asked.TheVariants.{Command}
-use Rattle.gbkeep.specs.declared.fault.Fault.{Fault}
+use Rattle.refusals.specs.declared.refusal.Refusal.{Refusal}
 use Rattle.gbkeep.proofs.Endings.{refused_ends}
 use Rattle.gbkeep.proofs.program.answer.Goals as goal
 
@@ -17,6 +17,6 @@ returns-in-Err-serve g c =
       output_failed = g.O.Output.has_failed c.serve.new.out;
     } in
     let same : c.args.asked ≡ Ok (Command c.in-Ok-Command.request) = cc in
-    subst (λ (asked : Result Asked Fault). HasEnded asked run c.report.result) (sym same)
+    subst (λ (asked : Result Asked Refusal). HasEnded asked run c.report.result) (sym same)
     (subst (λ (status : ℕ). HasEnded (Ok (Command c.in-Ok-Command.request)) run status) (sym c.report.ensures.status)
     (refused_ends c.in-Ok-Command.request c.in-Err-serve.fault run c.in-Err-serve.ensures.served (c.report.ensures.line, (c.in-Err-serve.ensures.output, c.in-Err-serve.ensures.input))))

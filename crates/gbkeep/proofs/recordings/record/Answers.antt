@@ -3,8 +3,8 @@ use Rattle.cartridge.specs.Accepted.{IsAccepted}
 use Rattle.recording.specs.Accessors.{device_of as device_of_recording}
 use Rattle.session.specs.Accessors.{device_of}
 use Rattle.gbkeep.specs.Program.{IsRecordRefused}
-use Rattle.gbkeep.specs.declared.fault.Fault.{Fault}
-use Rattle.gbkeep.proofs.RecordTexts.{fault_of_record, not_belonging, not_marked, recorded_to, record_refused}
+use Rattle.refusals.specs.declared.refusal.Refusal.{Refusal}
+use Rattle.gbkeep.proofs.RecordTexts.{refusal_of_record, not_belonging, not_marked, recorded_to, record_refused}
 use Rattle.gbkeep.proofs.recordings.record.Goals as goal
 use Rattle.gbkeep.proofs.recordings.record.Goals.{in-Session, in-Recording, in-Behind, in-Line, in-Input}
 
@@ -39,13 +39,13 @@ returns-clause-served g c =
     let before = g.O.Output.contents c.args.out.now in
     let since = g.O.Output.contents c.record.new.out in
     let cause = c.in-Err-record_play.ensures.refused in
-    let IsOf = λ (fault : Fault). IsRecordRefused fault (record { before = was; since = now }) (record { before = before; since = since }) in
+    let IsOf = λ (fault : Refusal). IsRecordRefused fault (record { before = was; since = now }) (record { before = before; since = since }) in
     let refused = record_refused c.in_ok-cartridge.cartridge accepted c.in-Ok-marked.game.save c.in-Err-record_play.refused.save c.in-Ok-marked.game.recording c.in-Err-record_play.refused.recording was now before since in
-    let is_of : c.match-refused.result ≡ fault_of_record c.in-Err-record_play.refused.why = elim c.match-refused.branch [
-      | in-Session w ↦ w.result-is ∙ sym (ap fault_of_record w.in-Session.is)
-      | in-Recording w ↦ w.result-is ∙ sym (ap fault_of_record w.in-Recording.is)
-      | in-Behind w ↦ w.result-is ∙ sym (ap fault_of_record w.in-Behind.is)
-      | in-Line w ↦ w.result-is ∙ sym (ap fault_of_record w.in-Line.is)
-      | in-Input w ↦ w.result-is ∙ sym (ap fault_of_record w.in-Input.is)
+    let is_of : c.match-refused.result ≡ refusal_of_record c.in-Err-record_play.refused.why = elim c.match-refused.branch [
+      | in-Session w ↦ w.result-is ∙ sym (ap refusal_of_record w.in-Session.is)
+      | in-Recording w ↦ w.result-is ∙ sym (ap refusal_of_record w.in-Recording.is)
+      | in-Behind w ↦ w.result-is ∙ sym (ap refusal_of_record w.in-Behind.is)
+      | in-Line w ↦ w.result-is ∙ sym (ap refusal_of_record w.in-Line.is)
+      | in-Input w ↦ w.result-is ∙ sym (ap refusal_of_record w.in-Input.is)
     ] in
     subst IsOf (sym is_of) (refused c.in-Err-record_play.refused.why cause)

@@ -6,11 +6,12 @@ use Rattle.session.specs.Stands.{IsAtRest, Position}
 use Rattle.battery_files.specs.Importing.{IsImportCause as IsFileCause, is_taken_length, start_with}
 use Rattle.embedding.specs.HostDevices.{host_disk}
 use Rattle.embedding.proofs.Counting.{handed_same, same_count}
+use Rattle.embedding.proofs.Taking.{file_refused}
 use Rattle.embedding.proofs.game.Game.import.Goals as goal
 
 pub returns-in-Err-machine_with_battery-clause-cause : goal.returns-in-Err-machine_with_battery-clause-cause
 returns-in-Err-machine_with_battery-clause-cause c =
-    c.import_fault.ensures c.args.rom.now c.args.battery.now c.args.sectors c.in-Ok.ensures.accepted
+    file_refused c.args.rom.now c.args.battery.now c.args.sectors c.in-Ok.ensures.accepted _
     (subst (λ (rom : List ℕ). IsFileCause rom c.args.battery.now c.in-Err-machine_with_battery.why) c.in-Ok.ensures.image c.in-Err-machine_with_battery.ensures.cause)
 
 pub returns-in-Ok-new_game_from-clause-machine : goal.returns-in-Ok-new_game_from-clause-machine
