@@ -16,8 +16,9 @@ use Rattle.input_entries.specs.declared.Entry.{Entry}
 use Rattle.recording.specs.Calls.{IsOpenCause}
 use Rattle.recording.specs.Recorded.{recorded, entries}
 use Rattle.recording.specs.declared.fault.RecordingFault.{RecordingFault}
-use Rattle.recording.specs.declared.fault.RecordingFault.TheVariants.{NoRecording, OtherCartridge}
+use Rattle.recording.specs.declared.fault.RecordingFault.TheVariants.{Memory as NoMemoryOfRecording, NoRecording, OtherCartridge}
 use Rattle.session.specs.Stands.{IsAtRest, StandsAsBefore, Position, stands}
+use Rattle.session.specs.Calls.{CanBeLookedAt}
 use Rattle.session.specs.Found.{IsResumeCause, IsLookCause}
 use Rattle.session.specs.Inputs.{input_of, inputs_of}
 use Rattle.session.specs.declared.error.SessionError.{SessionError}
@@ -32,7 +33,7 @@ use Rattle.replaying.specs.Agreeing.{IsRecorded, Agrees, AllAgree, recorded_inpu
 use Rattle.recorded_play.specs.Steps.{power_on, IsOfDevices}
 use Rattle.recorded_play.specs.CatchingUp.{recorded_in}
 use Rattle.recorded_play.specs.GoingOn.{LookAdvances, LookStops, IsLookStop, LookImage}
-use Rattle.recorded_play.specs.Whole.{IsTakenUp, HasTakenUp, IsNotTakenUp, IsTakeUpCause, IsForeign, IsStopAtRecorded, IsBehindBy}
+use Rattle.recorded_play.specs.Whole.{IsTakenUp, HasTakenUp, IsNotTakenUp, IsTakeUpCause, IsForeign, IsStopAtRecorded, IsBehindBy, CanGoOn, IsWhereMemoryLacks}
 use Rattle.recorded_play.specs.declared.error.RecordError.{RecordError}
 use Rattle.recorded_play.specs.declared.error.RecordError.TheVariants.{Session, Recording}
 use Rattle.playing.proofs.Going.{IsNow}
@@ -182,6 +183,15 @@ module _ {rom : List ℕ} {save looked recording opened : DiskState} {at : Posit
         let none = λ (honest : save.honest) (recording_honest : recording.honest). stops.cause (both.look honest).honest (both.opens recording_honest).honest in
         (λ honest recording_honest. absurd (none honest recording_honest), λ foreign honest recording_honest. absurd (none honest recording_honest))
 
+    can_go_on : CanGoOn rom save recording
+    can_go_on honest recording_honest = (at, drop at.count (recorded_in opened), is_taken_up (drop at.count (recorded_in opened)) (λ h. refl) honest recording_honest)
+
+    -- memory was refused behind both looks
+    memory_lacks : {now now_recording : DiskState} (why : RecordError) → LookStops rom looked now opened now_recording at why → IsWhereMemoryLacks why rom save now recording now_recording
+    memory_lacks (Session Memory) stops = inr (inr can_go_on)
+    memory_lacks (Recording NoMemoryOfRecording) stops = λ honest recording_honest. let is = stops.cause (both.look honest).honest (both.opens recording_honest).honest in absurd (cc)
+    memory_lacks why stops = tt
+
     pub not_taken_up : {now now_recording : DiskState} {why : RecordError} → IsNow recording → LookStops rom looked now opened now_recording at why → IsNotTakenUp rom save now recording now_recording why
     not_taken_up {why = why} only stops = record {
       cause = (cause_is why stops).0;
@@ -191,6 +201,7 @@ module _ {rom : List ℕ} {save looked recording opened : DiskState} {at : Posit
           (stops.images (both.look honest).honest (both.opens recording_honest).honest);
       looked = recording_looked only stops.looks;
       untouched = (cause_is why stops).1;
+      memory = memory_lacks why stops;
     }
 
     -- whatever is left agrees, where both agreed
@@ -215,14 +226,30 @@ pub look_refused : (rom : List ℕ) (save now recording : DiskState) (why : Sess
 look_refused rom save now recording GenerationsUsedUp cause honest recording_honest = absurd (cause honest)
 look_refused rom save now recording why cause honest recording_honest = inl (cause honest)
 
-pub refused_looking : {rom : List ℕ} {save now recording opened : DiskState} {why : RecordError} → (save.honest → recording.honest → IsTakeUpCause why rom save now recording) → IsOfDevices why → (save.honest → HasLooked save now) → (recording.honest → HasLooked recording opened) → IsNotTakenUp rom save now recording opened why
-refused_looking cause kind look opens = record {
+pub refused_looking : {rom : List ℕ} {save now recording opened : DiskState} {why : RecordError} → (save.honest → recording.honest → IsTakeUpCause why rom save now recording) → IsOfDevices why → (save.honest → HasLooked save now) → (recording.honest → HasLooked recording opened)
+    → IsWhereMemoryLacks why rom save now recording opened → IsNotTakenUp rom save now recording opened why
+refused_looking cause kind look opens memory = record {
   cause = cause;
   kind = kind;
   images = λ honest recording_honest. since_weaker (look honest).since (λ image stood. inl (record { before = image; stood = stood; is = refl }));
   looked = opens;
   untouched = λ foreign honest recording_honest. look honest;
+  memory = memory;
 }
+
+-- a look for which there was no memory
+pub look_lacks : {D : Type 0} (disk : D → DiskState) {rom : List ℕ} {old now : D} (recording : DiskState) (why : SessionError) → (why ≡ Memory → (now ≡ old) ⊎ ((disk old).honest → CanBeLookedAt rom (disk old))) → IsWhereMemoryLacks (Session why) rom (disk old) (disk now) recording recording
+look_lacks disk recording Memory memory =
+    ⊎_elim (λ same. inl ((ap (λ d. (disk d).sectors) same, ap (λ d. (disk d).moment) same, ap (λ d. (disk d).faults) same), (refl, refl, refl))) (λ can. inr (inl (can, (refl, refl, refl)))) (memory refl)
+look_lacks disk recording why memory = tt
+
+-- a recording for which there was none
+pub open_lacks : {D : Type 0} (disk : D → DiskState) (rom : List ℕ) (save looked : DiskState) {at : Position} {old now : D} (why : RecordingFault) → (why ≡ NoMemoryOfRecording → now ≡ old) → (save.honest → stands rom (content save.sectors) ≡ Some at)
+    → IsWhereMemoryLacks (Recording why) rom save looked (disk old) (disk now)
+open_lacks disk rom save looked {at = at} NoMemoryOfRecording memory stood =
+    let same = memory refl in
+    λ save_honest honest. (λ h. record { from = at; stood = stood h }, (ap (λ d. (disk d).sectors) same, ap (λ d. (disk d).moment) same, ap (λ d. (disk d).faults) same))
+open_lacks disk rom save looked why memory stood = tt
 
 pub agree_looking : (rom : List ℕ) {save now recording opened : DiskState} → (save.honest → HasLooked save now) → (recording.honest → HasLooked recording opened) → save.honest → recording.honest → AllAgree rom save recording → AllAgree rom now opened
 agree_looking rom look opens honest recording_honest agree =

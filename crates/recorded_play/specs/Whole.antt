@@ -12,13 +12,14 @@ use Rattle.sector_device.specs.declared.device.SectorDevice.{Ghosts}
 use Rattle.log_format.specs.Content.{content, generation_in}
 use Rattle.recording.specs.Calls.{IsOpenCause}
 use Rattle.recording.specs.Accessors.{device_of as device_of_recording}
-use Rattle.recording.specs.declared.fault.RecordingFault.TheVariants.{NoRecording, OtherCartridge, Full}
+use Rattle.recording.specs.declared.fault.RecordingFault.TheVariants.{Memory as NoMemoryOfRecording, NoRecording, OtherCartridge, Full}
+use Rattle.session.specs.Calls.{CanBeLookedAt}
 use Rattle.session.specs.Stands.{IsAtRest, StandsAsBefore, Position, stands, behind}
 use Rattle.session.specs.Found.{IsResumeCause}
 use Rattle.session.specs.Accessors.{device_of}
 use Rattle.session.specs.declared.error.SessionError.{SessionError}
-use Rattle.session.specs.declared.error.SessionError.TheVariants.{Output}
-use Rattle.playing.specs.Played.{PlayImage, Reaches, IsStop}
+use Rattle.session.specs.declared.error.SessionError.TheVariants.{Memory, Output}
+use Rattle.playing.specs.Played.{PlayImage, Reaches, IsAsItWas, IsStop}
 use Rattle.playing.specs.Report.{HasTold}
 use Rattle.playing.specs.Lines.{texts}
 use Rattle.input_lines.specs.Given.{Given, HasReadGiven}
@@ -157,6 +158,23 @@ IsForeign (Recording why) = (why ≡ NoRecording) ⊎ (why ≡ OtherCartridge)
 IsForeign (Behind count) = ⊤
 IsForeign why = ⊥
 
+-- the SAVE can be looked at, and no call was made of the recording's device
+abbrev pub IsBeforeRecording : (rom : List ℕ) → (old_save old_recording now_recording : DiskState) → Type 0
+IsBeforeRecording rom old_save old_recording now_recording = (old_save.honest → CanBeLookedAt rom old_save) × IsAsItWas old_recording now_recording
+
+-- the recording has all inputs of the SAVE: only generations that are used up, memory or a failed call refuses the game
+abbrev pub CanGoOn : (rom : List ℕ) → (save recording : DiskState) → Type 0
+CanGoOn rom save recording = save.honest → recording.honest → (at : Position) × (more : List Input) × IsTakenUp rom save.sectors recording.sectors at more
+
+-- Where memory was refused nothing holds that is refused before: no call was made of either device; or the SAVE can be looked at, and no
+-- call was made of the recording's; or the recording has all inputs of the SAVE.
+abbrev pub IsWhereMemoryLacks : RecordError → (rom : List ℕ) → (old_save now_save old_recording now_recording : DiskState) → Type 0
+IsWhereMemoryLacks (Session Memory) rom old_save now_save old_recording now_recording =
+    (IsAsItWas old_save now_save × IsAsItWas old_recording now_recording) ⊎ IsBeforeRecording rom old_save old_recording now_recording ⊎ CanGoOn rom old_save old_recording
+IsWhereMemoryLacks (Recording NoMemoryOfRecording) rom old_save now_save old_recording now_recording =
+    old_save.honest → old_recording.honest → IsBeforeRecording rom old_save old_recording now_recording
+IsWhereMemoryLacks why rom old_save now_save old_recording now_recording = ⊤
+
 -- It was not taken up, and the recording was only looked at.
 pub record IsNotTakenUp (rom : List ℕ) (old_save now_save old_recording now_recording : DiskState) (why : RecordError) : Type 0 where
   pub cause : old_save.honest → old_recording.honest → IsTakeUpCause why rom old_save now_save old_recording
@@ -166,6 +184,7 @@ pub record IsNotTakenUp (rom : List ℕ) (old_save now_save old_recording now_re
   pub looked : old_recording.honest → HasLooked old_recording now_recording
   -- a recording that is not that of the SAVE is refused before anything is written to either
   pub untouched : IsForeign why → old_save.honest → old_recording.honest → HasLooked old_save now_save
+  pub memory : IsWhereMemoryLacks why rom old_save now_save old_recording now_recording
 
 -- It was taken up: it went up to a wrong line, or a read that failed; or a line was refused.
 abbrev pub IsEndCause : RecordError → (rom : List ℕ) → (old_save now_save old_recording now_recording : DiskState) → (before_in since_in before since : Option (List ℕ)) → Type 0

@@ -11,13 +11,13 @@ use Rattle.replaying.specs.Agreeing.{AllAgree}
 use Rattle.recorded_play.specs.CatchingUp.{recorded_in}
 use Rattle.recorded_play.specs.Whole.{save_left, recording_left}
 use Rattle.recorded_play.proofs.Passing.{by_result}
-use Rattle.recorded_play.proofs.TakenUp.{AreLookedAt, is_behind, taken_up, not_taken_up, agree_on, look_refused, refused_looking, agree_looking, looked_same}
+use Rattle.recorded_play.proofs.TakenUp.{AreLookedAt, is_behind, taken_up, not_taken_up, agree_on, look_refused, refused_looking, look_lacks, open_lacks, agree_looking, looked_same}
 use Rattle.recorded_play.proofs.taking_up.take_up.Given.{Over}
 use Rattle.recorded_play.proofs.taking_up.take_up.Goals as goal
 use Rattle.recorded_play.proofs.taking_up.take_up.Goals.{After-input_count-count}
 
 pub returns-in-Err-clause-refused : goal.returns-in-Err-clause-refused
-returns-in-Err-clause-refused g c = refused_looking (look_refused c.args.cartridge.now (g.D.SectorDevice.disk c.args.save) _ _ c.in-Err.refused.why c.in-Err.ensures.cause) c.in-Err.ensures.no_report c.in-Err.ensures.looked (looked_same (g.met.E.SectorDevice.only_now c.args.recording))
+returns-in-Err-clause-refused g c = refused_looking (look_refused c.args.cartridge.now (g.D.SectorDevice.disk c.args.save) _ _ c.in-Err.refused.why c.in-Err.ensures.cause) c.in-Err.ensures.no_report c.in-Err.ensures.looked (looked_same (g.met.E.SectorDevice.only_now c.args.recording)) (look_lacks g.D.SectorDevice.disk (g.E.SectorDevice.disk c.args.recording) c.in-Err.refused.why c.in-Err.ensures.memory)
 
 pub returns-in-Err-clause-agree : goal.returns-in-Err-clause-agree
 returns-in-Err-clause-agree g c = agree_looking c.args.cartridge.now c.in-Err.ensures.looked (looked_same {now = g.E.SectorDevice.disk c.args.recording} (g.met.E.SectorDevice.only_now c.args.recording))
@@ -31,7 +31,8 @@ returns-in-Err-clause-recording_answered g c = answered_refusal (λ n. refl)
 pub returns-in-Err-open_recording-clause-refused : goal.returns-in-Err-open_recording-clause-refused
 returns-in-Err-open_recording-clause-refused g c =
     rw c.into_device.ensures.device
-    (refused_looking (λ honest other_honest. rw c.digest.ensures at c.in-Err-open_recording.ensures.cause) tt c.in-Ok.ensures.looked c.in-Err-open_recording.ensures.looked)
+    (refused_looking (λ honest other_honest. rw c.digest.ensures at c.in-Err-open_recording.ensures.cause) tt c.in-Ok.ensures.looked c.in-Err-open_recording.ensures.looked
+    (open_lacks g.E.SectorDevice.disk c.args.cartridge.now (g.D.SectorDevice.disk c.args.save) _ c.in-Err-open_recording.refused.why c.in-Err-open_recording.ensures.memory c.in-Ok.ensures.stands))
 
 pub returns-in-Err-open_recording-clause-agree : goal.returns-in-Err-open_recording-clause-agree
 returns-in-Err-open_recording-clause-agree g c = rw c.into_device.ensures.device (agree_looking c.args.cartridge.now c.in-Ok.ensures.looked c.in-Err-open_recording.ensures.looked)
@@ -61,7 +62,7 @@ both_looked g c =
 pub returns-then-count-clause-refused : goal.returns-then-count-clause-refused
 returns-then-count-clause-refused g c =
     let both = both_looked g (goal.at.returns-then-count-clause-refused g c).After-input_count-count in
-    rw (c.into_device-then-count.ensures.device, c.into_device-then-count-2.ensures) (refused_looking (is_behind both (omega (arith, c.count.ensures, c.if-count.true))) tt both.look both.opens)
+    rw (c.into_device-then-count.ensures.device, c.into_device-then-count-2.ensures) (refused_looking (is_behind both (omega (arith, c.count.ensures, c.if-count.true))) tt both.look both.opens tt)
 
 pub returns-then-count-clause-agree : goal.returns-then-count-clause-agree
 returns-then-count-clause-agree g c =
