@@ -9,12 +9,12 @@ use Rattle.c_interface.specs.Codes.{wrong_length}
 
 abbrev pub region_at : ℕ → Option Region
 region_at which = if which == 0 then Some Vram else (if which == 1 then Some Wram else (if which == 2 then Some Oam else
-  (if which == 3 then Some Hram else (if which == 4 then Some CartRam else None))))
+    (if which == 3 then Some Hram else (if which == 4 then Some CartRam else None))))
 
 -- as many of the first bytes are copied as there is room for, where there are so many
 abbrev pub IsCopied : (from old new : List ℕ) → (code : ℕ) → Type 0
 IsCopied from old new code = ((code ≡ done) × ((new ≡ take (length old) from) × (length old ≤ length from))) ⊎
-  ((code ≡ wrong_length) × ((new ≡ old) × (length from < length old)))
+    ((code ≡ wrong_length) × ((new ≡ old) × (length from < length old)))
 
 -- the first bytes of a memory are copied; a number that is none is refused as a wrong length is
 abbrev pub IsRegionAnswer : Option Region → BusState → (old new : List ℕ) → (code : ℕ) → Type 0
