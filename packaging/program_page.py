@@ -79,7 +79,8 @@ def section(manual, head):
 
 def page(version):
     """The page of the program of this version."""
-    manual = MANUAL.read_text(encoding='utf-8')
+    # what stands between lines that say so is made; it is a table as any other
+    manual = re.sub(r'^<!--.*\n', '', MANUAL.read_text(encoding='utf-8'), flags=re.M)
     top = list(blocks_of(manual[:manual.index('\n## ')].partition('\n\n')[2]))
     commands = next(lines for kind, lines in top if kind == 'table')
     usages = [re.sub('`', '', cells[0]) for cells in rows_of(commands)]
