@@ -553,6 +553,10 @@ until 1 1 1 1 1 1 1 1 1 1 1 1 1 1 1 1 1 1
 until-op 1
 until-op 1 4
 until-op 0 40
+continue 1
+continue 0 101
+continue 9 op
+continue 9 read 2-1
 frame
 frame 1G
 frames 00 1000001
@@ -571,9 +575,9 @@ registers
 
 nothing'''
 
-WRONG_ANSWERS = ''.join(f'wrong {line}\n' for line in range(2, 33)) + '''\
+WRONG_ANSWERS = ''.join(f'wrong {line}\n' for line in range(2, 37)) + '''\
 A=01 F=80 B=00 C=13 D=00 E=D8 H=01 L=4D SP=FFFE PC=0100 IME=0
-wrong 35
+wrong 39
 '''
 
 
@@ -647,6 +651,13 @@ def test_a_run_stops_before_an_access(room):
         # the first step is made whatever it accesses
         'until 9 10B\nuntil-write 99 D000\nuntil-write 99 D000': 'stopped 010B\nstopped 010D\nlimit 0112',
         'until 9 10D\nuntil-read 99 D000\nuntil-read 99 D000': 'stopped 010D\nstopped 010E\nlimit 0113',
+        # several conditions: of those that hold the first is told
+        'continue 99 write C001': 'stopped 0106 1', 'continue 99 read C000 write C001': 'stopped 0106 2', 'continue 99 op c5 write C001': 'stopped 0106 1',
+        'continue 99 0107 write C000-C001 op C5': 'stopped 0106 2', 'continue 99 change D000': 'stopped 010E 1', 'continue 99 change D000 read D000': 'stopped 010D 2',
+        'continue 99 1:0103 0:103': 'stopped 0103 2', 'continue 1 0103': 'limit 0103', 'continue 8 change D000': 'stopped 010E 1', 'continue 7 change D000': 'limit 010E',
+        'continue 99 D000 write D001-FE02': 'stopped 010F 2', 'continue 99 F000 read F000 write F000 change D001 op 40': 'limit 0112',
+        'continue 99 ' + ' '.join(['D000'] * 15) + ' 106': 'stopped 0106 16',
+        'until 9 10D\ncontinue 99 010D change D000': 'stopped 010D\nstopped 010E 2',
     }.items():
         room.done('debug access.gb', answer + '\n', line + '\n')
     room.rom('interrupted.gb', INTERRUPTED)

@@ -8,6 +8,8 @@ MOST_LINE, MOST_SENT, MOST_HISTORY = 128, 65536, 1024
 COUNT, HEX = rb'([0-9]{1,10})', rb'[0-9A-Fa-f]'
 ADDRESS, BYTE = rb'(' + HEX + rb'{1,4})', rb'(' + HEX + rb'{2})'
 SPAN = rb'(' + HEX + rb'{1,4}(?: ' + HEX + rb'{1,4})?)'
+PLACE = rb'(?:' + HEX + rb'{1,3}:)?' + HEX + rb'{1,4}'
+CONDITION = rb'(?:' + PLACE + rb'|op ' + HEX + rb'{2}|(?:read|write) ' + HEX + rb'{1,4}(?:-' + HEX + rb'{1,4})?|change ' + HEX + rb'{1,4})'
 
 
 def steps(word): return within(word, 1, 4294967295)
@@ -30,6 +32,18 @@ def span(words):
     return (both[0], both[-1]) if both[0] <= both[-1] else None
 
 
+def conditions(words):
+    """Conditions, each a kind and what it is of; None where a last address is below its first one."""
+    words, found = words.split(), []
+    while words:
+        kind = words.pop(0).decode()
+        if kind == 'op': found.append((kind, int(words.pop(0), 16)))
+        elif kind == 'change': found.append((kind, int(words.pop(0), 16)))
+        elif kind in ('read', 'write'): found.append((kind, span(words.pop(0).replace(b'-', b' '))))
+        else: found.append(('place', places(kind.encode())[0]))
+    return None if any(of is None for _, of in found) else found
+
+
 def within(word, low, high):
     """The number, or None where it is none of these."""
     return int(word) if low <= int(word) <= high else None
@@ -38,13 +52,14 @@ def within(word, low, high):
 # the form of each line, and what reads its words
 FORMS = [(re.compile(form), name, readers) for form, name, readers in (
     (rb'step ' + COUNT, 'step', (steps,)),
-    (rb'until ' + COUNT + rb'((?: (?:' + HEX + rb'{1,3}:)?' + HEX + rb'{1,4}){1,16})', 'until', (steps, places)),
+    (rb'until ' + COUNT + rb'((?: ' + PLACE + rb'){1,16})', 'until', (steps, places)),
+    (rb'continue ' + COUNT + rb'((?: ' + CONDITION + rb'){1,16})', 'continue', (steps, conditions)),
     (rb'until-op ' + COUNT + b' ' + BYTE, 'until-op', (steps, byte)),
     (rb'until-change ' + COUNT + b' ' + ADDRESS, 'until-change', (steps, address)),
     (rb'until-write ' + COUNT + b' ' + SPAN, 'until-write', (steps, span)),
     (rb'until-read ' + COUNT + b' ' + SPAN, 'until-read', (steps, span)),
     (rb'bank ' + ADDRESS, 'bank', (address,)),
-    (rb'profile ' + COUNT + rb'((?: (?:' + HEX + rb'{1,3}:)?' + HEX + rb'{1,4}){0,16})', 'profile', (steps, places)),
+    (rb'profile ' + COUNT + rb'((?: ' + PLACE + rb'){0,16})', 'profile', (steps, places)),
     (rb'set ' + ADDRESS + b' ' + BYTE, 'set', (address, byte)),
     (rb'set-register ([AFBCDEHL]) (' + HEX + rb'{1,2})', 'set-register', (text, byte)),
     (rb'set-register (AF|BC|DE|HL|SP|PC) ' + ADDRESS, 'set-register', (text, address)),
@@ -263,6 +278,24 @@ class Debugger:
             self.step()
         return '%s %04X\n' % ('stopped' if made < limit else 'limit', m.pc)
 
+    def go_on(self, limit, conditions):
+        """Up to the step before which one of these holds, and which: a first run counts the steps before it, and a second one makes them."""
+        m, before, number = self.m, values_of(self.m, but=()), 0
+        bytes_then = {of: m.read(of, peek=True) for kind, of in conditions if kind == 'change'}
+        m.step()
+        made = 1
+        while made < limit and not number:
+            now = [self.is_at([of]) if kind == 'place' else self.is_before(of) if kind == 'op' else kind == 'change' and m.read(of, peek=True) != bytes_then[of]
+                   for kind, of in conditions]
+            reads, writes = m.accesses()
+            also = [kind in ('read', 'write') and any(of[0] <= at <= of[1] for at in (reads if kind == 'read' else writes)) for kind, of in conditions]
+            number = next((k for k, holds in enumerate(map(max, now, also), 1) if holds), 0)
+            made += not number
+        take_up(m, before)
+        for _ in range(made):
+            self.step()
+        return 'stopped %04X %d\n' % (m.pc, number) if number else 'limit %04X\n' % m.pc
+
     def profile(self, limit, places):
         """Up to one of these places, and the M-cycles by the byte of ROM with which each instruction began."""
         m, taken, elsewhere, made, there = self.m, {}, 0, 0, False
@@ -313,6 +346,7 @@ class Debugger:
             byte = m.read(words[1], peek=True)
             return self.until(words[0], lambda: m.read(words[1], peek=True) != byte)
         if name in ('until-write', 'until-read'): return self.until_access(words[0], *words[1], name == 'until-write')
+        if name == 'continue': return self.go_on(*words)
         if name == 'profile': return self.profile(*words)
         if name == 'bank': return 'bank %04X\n' % m.bank_at(words[0])
         if name == 'frame': return self.frames(words[0], 1)
@@ -379,6 +413,10 @@ WRONG = [b'step', b'step 0', b'step 4294967296', b'step 00000000001', b'step -1'
          b'until 1 ' + b' '.join([b'0:0'] * 17), b'until-change', b'until-change 1', b'until-change 0 1', b'until-change 1 10000', b'until-change 1 1 1',
          b'until-change 1 1:1', b'until-write', b'until-write 1', b'until-write 0 1', b'until-write 1 10000', b'until-write 1 1 0', b'until-write 1 1 1 1',
          b'until-write 1 FFFF 0', b'until-write 1 1 ', b'until-write 4294967296 1 1', b'until-write 1 0 10000', b'until-read 1 8000 7fff', b'until-read 1 1:1',
+         b'continue', b'continue 1', b'continue 0 1', b'continue 1 op', b'continue 1 op 4', b'continue 1 op 404', b'continue 1 read', b'continue 1 read 1-', b'continue 1 read -1',
+         b'continue 1 read 2-1', b'continue 1 write 1-2-3', b'continue 1 write 10000', b'continue 1 change', b'continue 1 change 1-2', b'continue 1 change 1:2', b'continue 1 1 ',
+         b'continue 1  1', b'continue 1 ' + b' '.join([b'0'] * 17), b'continue 1 ' + b' '.join([b'op 00'] * 17), b'continue 1 until 1', b'continue 1 op 40 read',
+         b'continue 1 Op 40', b'continue 4294967296 1', b'until 1 op 40', b'profile 1 change 1', b'continue 1 place 1', b'continue 1 ' + b'write 1000-2000 ' * 7 + b'1000000',
          b'until-read', b'until-read 1 1 1 ', b'until-Read 1 1', b'bank', b'bank 10000', b'bank 1 1', b'bank 1:1', b'bank g',
          b'profile', b'profile ', b'profile 0', b'profile 4294967296', b'profile 1 ', b'profile 1 10000', b'profile 1 :100', b'profile 1 1000:0', b'profile 1 g', b'profile 1  1',
          b'profile -1', b'Profile 1', b'profile x', b'profile 1 1 g', b'profile 1 ' + b' '.join([b'1'] * 17), b'profile 1 1:2:3', b'profile 1\x00', b'profile 100 on',
@@ -427,11 +465,15 @@ def a_line(rnd, most, seen):
         last = min(first + rnd.choice([0, 1, 15, 255, rnd.randrange(65536)]), 0xFFFF)
         return rnd.choice(['%04X %04x' % (first, last), '%X' % first])
 
+    def condition():
+        return rnd.choice([banked, banked, lambda: 'op %02X' % rnd.choice([0x40, *opcodes]), lambda: 'change ' + place(),
+                           lambda: rnd.choice(['read ', 'write ']) + spanned().replace(' ', '-')])()
+
     def register():
         name = rnd.choice(['A', 'F', 'B', 'C', 'D', 'E', 'H', 'L', 'AF', 'BC', 'DE', 'HL', 'SP', 'PC'])
         return '%s %s' % (name, rnd.choice(['%X', '%02x']) % rnd.randrange(256) if len(name) == 1 else place())
 
-    choice = rnd.randrange(27)
+    choice = rnd.randrange(31)
     if choice < 2: return 'step ' + count(most // 4 + 1)
     if choice < 4: return 'until %s %s' % (count(most), ' '.join(banked() for _ in range(rnd.choice([1, 1, 2, 3, 12]))))
     if choice < 6: return 'until-op %s %02x' % (count(most), rnd.choice([0x40, rnd.choice(opcodes), rnd.choice(opcodes), rnd.randrange(256)]))
@@ -449,6 +491,7 @@ def a_line(rnd, most, seen):
     if choice == 21: return 'set %s %02X' % (place(), rnd.choice([0, 1, 0x0A, 0x81, 0xFF, rnd.randrange(256)]))
     if choice == 22: return 'set-register ' + register()
     if choice < 25: return ' '.join(['profile', count(most), *[banked() for _ in range(rnd.choice([0, 0, 1, 2, 16]))]])
+    if choice < 29: return ' '.join(['continue', count(most), *[condition() for _ in range(rnd.choice([1, 1, 2, 3, 8]))]])
     return rnd.choice(['registers', 'serial', 'digest', 'digest'] + ['picture', 'state'] * (rnd.random() < 0.2))
 
 
@@ -566,6 +609,22 @@ def check():
             if name in (b'list', b'memory') and len(rest) == 2: return name.decode(), hexes(rest[0], 1, 4), number(rest[1], 1, 2 ** 16)
             if name == b'until-op' and len(rest) == 2: return 'until-op', number(rest[0], 1, 2 ** 32 - 1), hexes(rest[1], 2, 2)
             if name == b'until' and 2 <= len(rest) <= 17: return 'until', number(rest[0], 1, 2 ** 32 - 1), [banked(word) for word in rest[1:]]
+            if name == b'continue' and len(rest) >= 2:
+                steps, words, found = number(rest[0], 1, 2 ** 32 - 1), rest[1:], []
+                while words:
+                    kind, words = words[0], words[1:]
+                    if kind not in (b'op', b'read', b'write', b'change'):
+                        found.append(('place', banked(kind)))
+                        continue
+                    if not words: return None
+                    word, words = words[0], words[1:]
+                    if kind == b'op': found.append(('op', hexes(word, 2, 2)))
+                    if kind == b'change': found.append(('change', hexes(word, 1, 4)))
+                    if kind in (b'read', b'write'):
+                        ends = [hexes(end, 1, 4) for end in word.split(b'-')]
+                        if len(ends) > 2 or ends[-1] < ends[0]: return None
+                        found.append((kind.decode(), (ends[0], ends[-1])))
+                return ('continue', steps, found) if len(found) <= 16 else None
             if name == b'profile' and 1 <= len(rest) <= 17: return 'profile', number(rest[0], 1, 2 ** 32 - 1), [banked(word) for word in rest[1:]]
             if name == b'until-change' and len(rest) == 2: return 'until-change', number(rest[0], 1, 2 ** 32 - 1), hexes(rest[1], 1, 4)
             if name in (b'until-write', b'until-read') and 2 <= len(rest) <= 3:

@@ -12,7 +12,7 @@ use Rattle.std.proofs.lemmas.List.Elements.{All-cons, All-nil}
 use Rattle.machine.specs.Machine.{Frame, PassesTime, after}
 use Rattle.machine.proofs.KeptByInputs.{bus_keeps, by_inputs}
 use Rattle.debugging.specs.declared.order.Order.{Order}
-use Rattle.debugging.specs.declared.order.Order.TheVariants.{Frames, Seconds, Step, Until, UntilOpcode, UntilChange, UntilWrite, UntilRead, Set, SetRegister, Registers, History, List as Listing, Memory, Bank, Serial, Picture, State, Digest}
+use Rattle.debugging.specs.declared.order.Order.TheVariants.{Frames, Seconds, Step, Until, Continue, Set, SetRegister, Registers, History, List as Listing, Memory, Bank, Serial, Picture, State, Digest}
 use Rattle.snapshot.specs.Encoding.{snapshot_length}
 use Rattle.snapshot.specs.Legal.{IsOfImage}
 use Rattle.memory_map.proofs.SameCartridge.{write_same}
@@ -51,11 +51,8 @@ order_keeps : (order : Order) (r : RunState) → IsKept r (after_order order r)
 order_keeps (Frames buttons times) r = frames_keep times buttons r
 order_keeps (Seconds n) r = seconds-same n (processor_of r).memory.banks
 order_keeps (Step n) r = steps_keep n r
-order_keeps (Until limit places) r = steps_keep _ r
-order_keeps (UntilOpcode limit opcode) r = steps_keep _ r
-order_keeps (UntilChange limit address) r = steps_keep _ r
-order_keeps (UntilWrite limit span) r = steps_keep _ r
-order_keeps (UntilRead limit span) r = steps_keep _ r
+order_keeps (Until limit conditions) r = steps_keep _ r
+order_keeps (Continue limit conditions) r = steps_keep _ r
 order_keeps (Set address byte) r = write_same address byte (processor_of r).memory
 order_keeps (SetRegister value) r = itself r
 order_keeps Registers r = itself r

@@ -1,5 +1,6 @@
 pub mod Words
 pub mod Stopping
+pub mod MetConditions
 pub mod Copies
 pub mod Frames
 pub mod Places

@@ -25,12 +25,10 @@ use Rattle.sm83_processor.proofs.FastSteps.{fast_step}
 use Rattle.memory_map.specs.Bus.{read_at}
 use Rattle.memory_map.specs.BusRules.{bus_rules}
 use Rattle.memory_map.specs.State.{BusState}
-use Rattle.debugging.specs.declared.order.Place.{Place}
 use Rattle.debugging.specs.declared.order.Span.{Span}
 use Rattle.debugging.specs.Accesses.{Watched, copied_of, cycle_noted, instruction_reads, is_in, is_reading, is_writing, operand_reads, step_reads, watched, watched_step, watching, write_noted}
-use Rattle.debugging.specs.Banks.{bank_at}
 use Rattle.debugging.specs.Passing.{StoresNothing, LoadsNothing, instruction_writes, only_dma, pushed_writes}
-use Rattle.debugging.specs.Run.{has_run, is_at, is_bank, is_before, is_place}
+use Rattle.debugging.specs.Run.{has_run, is_before}
 
 absurd_true : {A : Type 0} → true ≡ false → A
 absurd_true e = cc
@@ -205,16 +203,7 @@ loads_none off p opcode is nothing =
     let third = byte_at bus_rules (next_address (second_address p)) p in
     ap (list_any off) (subst (λ (o : ℕ). instruction_reads (instruction_of o second third) p.registers ≡ []) is (nothing second third p.registers))
 
--- ---- places and opcodes
+-- ---- opcodes
 
 pub runs_opcode : (opcode : ℕ) (p : Processor BusState) → IsFast bus_rules p → is_before opcode p ≡ (read_at p.memory p.registers.pc == opcode)
 runs_opcode opcode p fast = ap (λ (s : Step BusState). has_run opcode s.stepped.kind) (fast_step bus_rules p fast)
-
-place_elsewhere : (p : Processor BusState) (place : Place) → (place.address == p.registers.pc) ≡ false → is_place p place ≡ false
-place_elsewhere p place other = ap (λ (b : Bool). b && is_bank place.bank (bank_at p.memory place.address)) other
-
-pub elsewhere : (p : Processor BusState) (places : List Place) → list_any (λ (place : Place). place.address == p.registers.pc) places ≡ false → is_at places p ≡ false
-elsewhere p [] none = refl
-elsewhere p (place ∷ places) none =
-    ap (λ (b : Bool). b || list_any (is_place p) places) (place_elsewhere p place (first_fails _ _ none))
-    ∙ elsewhere p places (second_fails _ _ none)

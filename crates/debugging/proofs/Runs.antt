@@ -1,11 +1,10 @@
 -- Runs of a debugger, one after another, and what they send.
 use Rattle.std.proofs.Common.{◌≡◌, ◌∙◌, ◌⊎◌, inl, inr, ℕ, zero, suc, ◌+◌, ◌-◌, ◌*◌, ◌<◌, ◌≤◌, Bool, true, false, List, [], ◌++◌, length, append-nil, append_assoc, ap, refl, subst, sym, arith}
 use Rattle.std.specs.Prelude.{◌==◌, nat_lt}
-use Rattle.std.specs.Cmp.{IsEquivalence}
 use Rattle.std.specs.List.{Contains}
 use Rattle.std.proofs.lemmas.Bool.{lt-ltb, le-ltb}
 use Rattle.std.proofs.lemmas.Bool.Decides.{nat_tests}
-use Rattle.std.proofs.lemmas.Map.Views.{Contains-from_any, list_any-from_Contains}
+use Rattle.std.proofs.lemmas.Map.Views.{Contains-from_any}
 use Rattle.circular_buffer.specs.Buffer.{keep_last}
 use Rattle.memory_map.specs.State.{BusState}
 use Rattle.memory_map.specs.BusRules.{bus_rules}
@@ -95,16 +94,6 @@ at_none addresses p none = go (has_pc addresses p) refl
     go : (b : Bool) → has_pc addresses p ≡ b → has_pc addresses p ≡ false
     go true e = absurd (none (Contains-from_any tells p.registers.pc addresses e))
     go false e = e
-
-same_number : IsEquivalence (λ (x y : ℕ). y == x)
-same_number = record {
-  refl = λ x. grind (arith, nat_tests);
-  symm = λ x y. grind (arith, nat_tests);
-  congr = λ x y z e. ap (λ (n : ℕ). z == n) (tells x y e);
-}
-
-pub at_one : (addresses : List ℕ) (p : Processor BusState) → Contains addresses p.registers.pc → has_pc addresses p ≡ true
-at_one addresses p there = list_any-from_Contains same_number p.registers.pc addresses there
 
 -- ---- a run up to a place, in parts
 

@@ -7,7 +7,6 @@ use Rattle.circular_buffer.specs.Buffer.{keep_last}
 use Rattle.exact_text.specs.Hex.{word_text}
 use Rattle.picture_unit.specs.Pgm.{picture_text}
 use Rattle.memory_map.specs.State.{BusState}
-use Rattle.memory_map.specs.Bus.{peeked}
 use Rattle.memory_map.specs.BusRules.{bus_rules}
 use Rattle.sm83_processor.specs.declared.processor.Processor.{Processor}
 use Rattle.sm83_processor.specs.declared.step.Executed.{Executed}
@@ -18,7 +17,7 @@ use Rattle.debugger.specs.Listing.{lines_from}
 use Rattle.debugger.specs.Registers.{register_line}
 use Rattle.debugger.specs.Report.{line_seen, step_lines}
 use Rattle.debugging.specs.declared.order.Order.{Order}
-use Rattle.debugging.specs.declared.order.Order.TheVariants.{Frames, Seconds, Step, Until, UntilOpcode, UntilChange, UntilWrite, UntilRead, Set, SetRegister, Registers, History, List as Listing, Memory, Bank, Serial, Picture, State, Digest}
+use Rattle.debugging.specs.declared.order.Order.TheVariants.{Frames, Seconds, Step, Until, Continue, Set, SetRegister, Registers, History, List as Listing, Memory, Bank, Serial, Picture, State, Digest}
 use Rattle.debugging.specs.declared.order.StateOrder.{StateOrder}
 use Rattle.debugging.specs.declared.order.StateOrder.TheVariants.{Power, Keep, Back, Profile}
 use Rattle.debugging.specs.Profile.{cycles_text, no_cycles, with_steps}
@@ -27,11 +26,10 @@ use Rattle.debugging.specs.Orders.{order_of, restore_of, state_order_of}
 use Rattle.debugging.specs.States.{after_power, is_given, restored, rom_of, with_machine}
 use Rattle.debugging.specs.KeptStates.{DebugState}
 use Rattle.input_lines.specs.Given.{Given}
-use Rattle.debugging.specs.declared.order.Place.{Place}
-use Rattle.debugging.specs.declared.order.Span.{Span}
+use Rattle.debugging.specs.declared.order.Condition.{Condition}
 use Rattle.debugging.specs.Banks.{bank_at}
-use Rattle.debugging.specs.Accesses.{is_reading, is_writing}
-use Rattle.debugging.specs.Run.{RunState, processor_of, after_steps_of, steps_up_to, is_at, is_before, is_changed, after_frames, after_seconds}
+use Rattle.debugging.specs.Conditions.{holds, is_met, number_of}
+use Rattle.debugging.specs.Run.{RunState, processor_of, after_steps_of, steps_up_to, after_frames, after_seconds}
 use Rattle.machine_lines.specs.KeptStates.{kept_under}
 use Rattle.machine_lines.specs.Texts.{count_line, memory_text, state_text}
 
@@ -63,32 +61,25 @@ digest_text m = digest_line (sha256 (encoded m))
 
 -- ---- orders
 
--- how many steps an order makes
-abbrev pub until_steps : ℕ → List Place → RunState → ℕ
-until_steps limit places r = steps_up_to (is_at places) limit (processor_of r)
+-- how many steps a run up to one of these conditions makes
+abbrev pub until_steps : ℕ → List Condition → RunState → ℕ
+until_steps limit conditions r = steps_up_to (is_met (processor_of r).memory conditions) limit (processor_of r)
 
-abbrev pub until_opcode_steps : ℕ → ℕ → RunState → ℕ
-until_opcode_steps limit opcode r = steps_up_to (is_before opcode) limit (processor_of r)
+-- which condition stopped it, by its number, if one did before all steps were made
+abbrev pub met_text : Bool → (number : ℕ) → Processor BusState → List ℕ
+met_text true number p = codes "stopped " ++ (word_text p.registers.pc ++ (codes " " ++ (decimal number ++ codes "\n")))
+met_text false number p = place_text false p
 
--- the byte that is shown as the order begins
-abbrev pub until_change_steps : ℕ → ℕ → RunState → ℕ
-until_change_steps limit address r = steps_up_to (is_changed address (peeked (processor_of r).memory address)) limit (processor_of r)
-
-abbrev pub until_write_steps : ℕ → Span → RunState → ℕ
-until_write_steps limit span r = steps_up_to (is_writing span) limit (processor_of r)
-
-abbrev pub until_read_steps : ℕ → Span → RunState → ℕ
-until_read_steps limit span r = steps_up_to (is_reading span) limit (processor_of r)
+abbrev pub continue_text : ℕ → List Condition → (old new : RunState) → List ℕ
+continue_text limit conditions old new =
+    met_text (nat_lt (until_steps limit conditions old) limit) (number_of (holds (processor_of old).memory (processor_of new)) conditions) (processor_of new)
 
 abbrev pub after_order : Order → RunState → RunState
 after_order (Frames buttons times) r = after_frames times buttons r
 after_order (Seconds n) r = after_seconds n r
 after_order (Step n) r = after_steps_of n r
-after_order (Until limit places) r = after_steps_of (until_steps limit places.items r) r
-after_order (UntilOpcode limit opcode) r = after_steps_of (until_opcode_steps limit opcode r) r
-after_order (UntilChange limit address) r = after_steps_of (until_change_steps limit address r) r
-after_order (UntilWrite limit span) r = after_steps_of (until_write_steps limit span r) r
-after_order (UntilRead limit span) r = after_steps_of (until_read_steps limit span r) r
+after_order (Until limit conditions) r = after_steps_of (until_steps limit conditions.items r) r
+after_order (Continue limit conditions) r = after_steps_of (until_steps limit conditions.items r) r
 after_order (Set address byte) r = with_machine (byte_set address byte r.debugger.machine) r
 after_order (SetRegister value) r = with_machine (register_set value r.debugger.machine) r
 after_order Registers r = r
@@ -106,11 +97,8 @@ abbrev pub answer_from : Order → (old new : RunState) → List ℕ
 answer_from (Frames buttons times) old new = codes "done\n"
 answer_from (Seconds n) old new = codes "done\n"
 answer_from (Step n) old new = step_lines bus_rules n (processor_of old)
-answer_from (Until limit places) old new = place_text (nat_lt (until_steps limit places.items old) limit) (processor_of new)
-answer_from (UntilOpcode limit opcode) old new = place_text (nat_lt (until_opcode_steps limit opcode old) limit) (processor_of new)
-answer_from (UntilChange limit address) old new = place_text (nat_lt (until_change_steps limit address old) limit) (processor_of new)
-answer_from (UntilWrite limit span) old new = place_text (nat_lt (until_write_steps limit span old) limit) (processor_of new)
-answer_from (UntilRead limit span) old new = place_text (nat_lt (until_read_steps limit span old) limit) (processor_of new)
+answer_from (Until limit conditions) old new = place_text (nat_lt (until_steps limit conditions.items old) limit) (processor_of new)
+answer_from (Continue limit conditions) old new = continue_text limit conditions.items old new
 answer_from (Set address byte) old new = codes "done\n"
 answer_from (SetRegister value) old new = codes "done\n"
 answer_from Registers old new = register_line (processor_of old)
@@ -177,13 +165,13 @@ abbrev pub after_state_order : StateOrder → DebugState → DebugState
 after_state_order Power d = record d { run = after_power d.run }
 after_state_order (Keep n) d = record d { kept = record { number = n; machine = d.run.debugger.machine } ∷ d.kept }
 after_state_order (Back n) d = after_back (kept_under n d.kept) d
-after_state_order (Profile limit places) d = record d { run = after_steps_of (until_steps limit places.items d.run) d.run }
+after_state_order (Profile limit conditions) d = record d { run = after_steps_of (until_steps limit conditions.items d.run) d.run }
 
 abbrev pub answer_state_order : StateOrder → (number : ℕ) → DebugState → List ℕ
 answer_state_order Power number d = codes "done\n"
 answer_state_order (Keep n) number d = count_line (codes "kept") n
 answer_state_order (Back n) number d = answer_back (kept_under n d.kept) n number
-answer_state_order (Profile limit places) number d = profile_text (until_steps limit places.items d.run) limit d.run
+answer_state_order (Profile limit conditions) number d = profile_text (until_steps limit conditions.items d.run) limit d.run
 
 -- ---- lines, and the bytes that they ask for
 
@@ -225,5 +213,5 @@ after_lines (given ∷ rest) d = after_lines rest (after_given given d)
 abbrev pub takes_memory : Option StateOrder → DebugState → Bool
 takes_memory (Some Power) d = true
 takes_memory (Some (Keep n)) d = not (is_some (kept_under n d.kept))
-takes_memory (Some (Profile limit places)) d = true
+takes_memory (Some (Profile limit conditions)) d = true
 takes_memory order d = false

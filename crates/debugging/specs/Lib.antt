@@ -3,6 +3,7 @@ pub mod Orders
 pub mod Banks
 pub mod Accesses
 pub mod Run
+pub mod Conditions
 pub mod Profile
 pub mod States
 pub mod KeptStates

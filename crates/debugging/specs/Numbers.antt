@@ -9,4 +9,4 @@ abbrev pub IsNumbered : StateOrder → Type 0
 IsNumbered Power = ⊤
 IsNumbered (Keep n) = n < slots
 IsNumbered (Back n) = n < slots
-IsNumbered (Profile steps places) = ⊤
+IsNumbered (Profile steps conditions) = ⊤

@@ -2,14 +2,17 @@
 use Rattle.std.specs.Prelude.{◌≡◌, ◌⊎◌, ◌<◌, ◌≤◌, ◌*◌, ◌%◌, ◌==◌, ◌&&◌, ◌||◌, not, ℕ, Bool, true, false, List, length}
 use Rattle.std.specs.List.{list_any}
 use Rattle.memory_map.specs.State.{BusState}
+use Rattle.memory_map.specs.Bus.{peeked}
 use Rattle.memory_map.specs.BusRules.{bus_rules}
 use Rattle.sm83_processor.specs.Steps.{after_steps}
 use Rattle.sm83_processor.specs.declared.processor.Processor.{Processor}
 use Rattle.debugger.specs.History.{DebuggerState, after_run}
-use Rattle.debugging.specs.Run.{RunState, after_steps_of, is_at, is_before, is_changed, processor_of}
+use Rattle.debugging.specs.Run.{RunState, after_steps_of, is_before, is_changed, is_place, processor_of}
 use Rattle.debugging.specs.Accesses.{is_reading, is_writing}
-use Rattle.debugging.specs.declared.run.Aim.{Aim}
-use Rattle.debugging.specs.declared.run.Aim.TheVariants.{Addresses, Places, Opcode, Changed, Writes, Reads}
+use Rattle.debugging.specs.declared.order.Condition.{Condition}
+use Rattle.debugging.specs.declared.order.Condition.TheVariants.{At, Runs, Reads, Writes, Changes}
+use Rattle.debugging.specs.declared.aims.Aim.{Aim}
+use Rattle.debugging.specs.declared.aims.Aim.TheVariants.{Place, Opcode, Read, Write, Other}
 
 -- no transfer can end in so many steps: each takes six M-cycles at most, and a transfer that begins 1,024
 pub record IsQuietFor (steps : ℕ) (p : Processor BusState) : Type 0 where
@@ -45,14 +48,24 @@ pub record StopsIn (is_there : Processor BusState → Bool) (limit : ℕ) (old n
 abbrev pub has_pc : List ℕ → Processor BusState → Bool
 has_pc addresses p = list_any (λ address. address == p.registers.pc) addresses
 
--- where a run stops
-abbrev pub is_aim : Aim → Processor BusState → Bool
-is_aim (Addresses addresses) p = has_pc addresses.now p
-is_aim (Places places) p = is_at places.now p
-is_aim (Opcode opcode) p = is_before opcode p
-is_aim (Changed address byte) p = is_changed address byte p
-is_aim (Writes span) p = is_writing span p
-is_aim (Reads span) p = is_reading span p
+-- what a run looks for, before its next step
+abbrev pub is_aim : Processor BusState → Aim → Bool
+is_aim p (Place place) = is_place p place
+is_aim p (Opcode opcode) = is_before opcode p
+is_aim p (Read span) = is_reading span p
+is_aim p (Write span) = is_writing span p
+is_aim p (Other address byte) = is_changed address byte p
+
+abbrev pub is_any : List Aim → Processor BusState → Bool
+is_any aims p = list_any (is_aim p) aims
+
+-- of a run that begins with this memory
+abbrev pub aim_of : BusState → Condition → Aim
+aim_of began (At place) = Place place
+aim_of began (Runs opcode) = Opcode opcode
+aim_of began (Reads span) = Read span
+aim_of began (Writes span) = Write span
+aim_of began (Changes address) = Other address (peeked began address)
 
 -- the ROM has so many bytes, two banks at least
 pub record HasRom (rom : ℕ) (b : BusState) : Type 0 where

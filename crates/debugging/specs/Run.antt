@@ -1,7 +1,6 @@
 -- How a debugger's machine runs: steps, steps up to a place, frames.
 use Rattle.std.specs.Prelude.{ℕ, zero, suc, ◌==◌, ◌&&◌, not, Bool, true, false, Option, None, Some, List, [], ◌++◌, nat_lt, slice_index, if◌then◌else◌}
 use Rattle.std.specs.Fn.{iterate}
-use Rattle.std.specs.List.{list_any}
 use Rattle.circular_buffer.specs.Buffer.{keep_last}
 use Rattle.memory_map.specs.State.{BusState}
 use Rattle.memory_map.specs.Bus.{peeked}
@@ -62,9 +61,6 @@ is_bank (Some asked) bank = asked == bank
 -- PC is at this place, and its bank is mapped there
 abbrev pub is_place : Processor BusState → Place → Bool
 is_place p place = place.address == p.registers.pc && is_bank place.bank (bank_at p.memory place.address)
-
-abbrev pub is_at : List Place → Processor BusState → Bool
-is_at places p = list_any (is_place p) places
 
 -- the byte that a look at this address shows is another than this one
 abbrev pub is_changed : (address byte : ℕ) → Processor BusState → Bool

@@ -10,7 +10,7 @@ ghost use Rattle.snapshot.specs.Legal.{IsOfImage};
 ghost use Rattle.std.specs.List.{flat_map};
 ghost use Rattle.debugger.specs.Registers.{register_line};
 ghost use Rattle.debugger.specs.Report.{line_seen, step_lines};
-ghost use Rattle.debugging.specs.Answers.{after_line, after_order, answer_line, answer_to, history_text, restored_text, digest_line, digest_text, place_text, serial_text, wrong_line};
+ghost use Rattle.debugging.specs.Answers.{after_line, after_order, answer_line, answer_to, history_text, met_text, restored_text, digest_line, digest_text, place_text, serial_text, wrong_line};
 ghost use Rattle.debugging.specs.Answers.{bank_line};
 ghost use Rattle.debugging.specs.States.{after_snapshot, is_snapshot, rom_of};
 ghost use Rattle.debugging.specs.Banks.{bank_at};
@@ -19,7 +19,7 @@ ghost use Rattle.debugging.specs.Run.{after_steps_of, processor_of};
 
 use crate::banks::bank_at;
 use crate::order::{Order, read_order};
-use crate::run::{Run, RunRestored, RunUntil};
+use crate::run::{Run, RunMet, RunRestored};
 use arrayvec::ArrayString;
 use cartridge::Cartridge;
 use debugger::{Debugger, register_line, write_stepped};
@@ -165,17 +165,12 @@ fn obey<W: Output>(
             Answered { run, written }
         }
         Order::Step(count) => write_steps(run, count, out),
-        Order::Until { steps, places } => stopped(run.run_until_place(places, rom, steps), out),
-        Order::UntilOpcode { steps, opcode } => stopped(
-            run.run_until_opcode(opcode, rom, steps),
-            out,
-        ),
-        Order::UntilChange { steps, address } => stopped(
-            run.run_until_change(address, rom, steps),
-            out,
-        ),
-        Order::UntilWrite { steps, span } => stopped(run.run_until_write(span, rom, steps), out),
-        Order::UntilRead { steps, span } => stopped(run.run_until_read(span, rom, steps), out),
+        Order::Until { steps, conditions } => {
+            stopped(run.run_until(conditions.as_slice(), rom, steps), out)
+        }
+        Order::Continue { steps, conditions } => {
+            met(run.run_until(conditions.as_slice(), rom, steps), out)
+        }
         Order::Set { address, byte } => {
             let run = run.set(address, byte);
             let written = write_whole(out, b"done\n");
@@ -225,7 +220,7 @@ fn obey<W: Output>(
 }
 
 /// Says where a run is, and whether it stopped there.
-fn stopped<W: Output>(until: RunUntil, out: &mut W) -> Answered
+fn stopped<W: Output>(until: RunMet, out: &mut W) -> Answered
     ensures run { result.run ≡ until.run }
     ensures ok { OnOk result.written
         (Appends (W.contents out.old) (W.contents out.new) (place_text until.is_there (processor_of until.run))) }
@@ -234,9 +229,44 @@ fn stopped<W: Output>(until: RunUntil, out: &mut W) -> Answered
         (place_text until.is_there (processor_of until.run))) }
     ensures failed { OnErr result.written (W.has_failed out.new ≡ true) }
 {
-    let RunUntil { run, is_there } = until;
+    let RunMet { run, is_there, .. } = until;
     let written = write_place(is_there, run.processor(), out);
     Answered { run, written }
+}
+
+/// Says where a run is, and which condition stopped it there, if one did.
+fn met<W: Output>(until: RunMet, out: &mut W) -> Answered
+    ensures run { result.run ≡ until.run }
+    ensures ok { OnOk result.written
+        (Appends (W.contents out.old) (W.contents out.new)
+        (met_text until.is_there until.number (processor_of until.run))) }
+    ensures err { OnErr result.written
+        (AppendsProperPrefix (W.contents out.old) (W.contents out.new)
+        (met_text until.is_there until.number (processor_of until.run))) }
+    ensures failed { OnErr result.written (W.has_failed out.new ≡ true) }
+{
+    let RunMet {
+        run,
+        is_there,
+        number,
+    } = until;
+    let text = met_text(is_there, number, run.processor());
+    let written = write_whole(out, text.as_bytes());
+    Answered { run, written }
+}
+
+fn met_text(is_there: bool, number: usize, processor: &Processor<Bus>) -> ArrayString<48>
+    ensures { result.bytes ≡ met_text is_there number processor.now }
+{
+    let mut text = ArrayString::new();
+    text.push_str(if is_there { "stopped " } else { "limit " });
+    text.push_str(word_digits(processor.registers.pc).as_str());
+    if is_there {
+        text.push_str(" ");
+        text.push_str(number_digits(number as u64).as_str());
+    }
+    text.push_str("\n");
+    text
 }
 
 fn write_registers<W: Output>(run: &Run, out: &mut W) -> Result<(), OutputFailed>

@@ -4,6 +4,7 @@
 //! byte, in `specs/Answers.antt`.
 #![tactic(auto)]
 
+mod aims;
 mod answering;
 mod banks;
 mod cycles;
@@ -20,5 +21,7 @@ mod switching;
 
 pub use error::DebugError;
 pub use obeying::LineDebugger;
-pub use order::{Order, Place, Span, StateOrder, read_order, read_restore, read_state_order};
+pub use order::{
+    Condition, Order, Place, Span, StateOrder, read_order, read_restore, read_state_order,
+};
 pub use registers::RegisterValue;

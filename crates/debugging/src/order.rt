@@ -1,14 +1,14 @@
 //! What a line asks a debugger for.
 
-ghost use Rattle.std.specs.Prelude.{◌≡◌, ◌≤◌, IfSome, ◌<◌, ◌^◌};
+ghost use Rattle.std.specs.Prelude.{◌≡◌, ◌≤◌, ◌<◌, ◌^◌, [], ◌∷◌, IfSome, Some as There, None as NotThere, length};
 ghost use Rattle.std.specs.Option.{option_map};
 ghost use Rattle.std.specs.Str.{bytes_eq};
 ghost use Rattle.script.specs.Line.{words_of};
 ghost use Rattle.machine_lines.specs.KeptStates.{slots};
 ghost use Rattle.machine_lines.specs.Words.{address_of, hex_of, room_of, slot_of};
 ghost use Rattle.debugging.specs.Numbers.{IsNumbered};
-ghost use Rattle.debugging.specs.Orders.{order_of, order_of_few, order_of_move, order_of_one, order_of_span, order_of_three, order_of_two, order_of_words, any_places_of, place_of, places_of, profile_order, restore_of, restore_of_words, span_of, state_order_of, state_order_of_words, steps_of, until_order};
-ghost use Rattle.debugging.specs.Words.{words_after};
+ghost use Rattle.debugging.specs.Orders.{all_conditions, both, condition_of, conditions_of, continue_order, is_kind, order_of, order_of_few, order_of_move, order_of_one, order_of_span, order_of_three, order_of_two, order_of_words, place_of, profile_order, restore_of, restore_of_words, span_in, span_of, state_order_of, state_order_of_words, steps_of, until_order};
+ghost use Rattle.debugging.specs.Words.{bytes_left, words_after};
 
 use crate::registers::{RegisterValue, read_register};
 use arrayvec::ArrayVec;
@@ -20,14 +20,17 @@ const SPACE: u8 = b' ';
 /// What stands between a bank and an address.
 const COLON: u8 = b':';
 
+/// What stands between the first address of some and the last.
+const DASH: u8 = b'-';
+
 /// The most bytes of a line.
 const MOST_BYTES: usize = 128;
 
 /// The most digits of a bank.
 const BANK_DIGITS: usize = 3;
 
-/// The most places at which a run stops.
-pub const MOST_PLACES: usize = 16;
+/// The most conditions of a run.
+const MOST_CONDITIONS: usize = 16;
 
 /// A place at which a run stops.
 #[derive(Clone, Copy, Default)]
@@ -45,48 +48,45 @@ pub struct Span {
     pub last: u16,
 }
 
+/// Where a run stops.
+#[derive(Clone, Copy)]
+pub enum Condition {
+    /// Before a step at a place.
+    At(Place),
+    /// Before a step that runs an instruction with this opcode.
+    Runs(u8),
+    /// Before a step that reads one of these addresses.
+    Reads(Span),
+    /// Before a step that writes one of these addresses.
+    Writes(Span),
+    /// Behind a step that leaves another byte at an address than was there as the run began.
+    Changes(u16),
+}
+
+impl Default for Condition {
+    fn default() -> Condition {
+        Condition::Runs(0)
+    }
+}
+
+/// Conditions of a run: sixteen at most.
+pub type Conditions = ArrayVec<Condition, 16>;
+
 /// What a line asks for.
 #[derive(Drop)]
 pub enum Order {
     /// Frames with these buttons, as in a script.
-    Frames {
-        buttons: u8,
-        times: u32,
-    },
+    Frames { buttons: u8, times: u32 },
     /// Seconds of the cartridge's clock.
     Seconds(u32),
     /// So many steps, with the line of each.
     Step(u32),
-    /// Steps up to one of these places, but at most so many.
-    Until {
-        steps: u32,
-        places: ArrayVec<Place, 16>,
-    },
-    /// Steps up to an instruction with this opcode, but at most so many.
-    UntilOpcode {
-        steps: u32,
-        opcode: u8,
-    },
-    /// Steps until the byte at an address is another, but at most so many.
-    UntilChange {
-        steps: u32,
-        address: u16,
-    },
-    /// Steps up to one that writes one of these addresses, but at most so many.
-    UntilWrite {
-        steps: u32,
-        span: Span,
-    },
-    /// Steps up to one that reads one of these addresses, but at most so many.
-    UntilRead {
-        steps: u32,
-        span: Span,
-    },
+    /// Steps up to one of these conditions, but at most so many.
+    Until { steps: u32, conditions: Conditions },
+    /// The same, and which of them it was.
+    Continue { steps: u32, conditions: Conditions },
     /// A byte is written to an address.
-    Set {
-        address: u16,
-        byte: u8,
-    },
+    Set { address: u16, byte: u8 },
     /// A register gets a value.
     SetRegister(RegisterValue),
     /// The registers.
@@ -94,15 +94,9 @@ pub enum Order {
     /// The last instructions, at most so many.
     History(u32),
     /// A listing of so many instructions.
-    List {
-        address: u16,
-        count: u32,
-    },
+    List { address: u16, count: u32 },
     /// So many bytes of memory.
-    Memory {
-        address: u16,
-        count: u32,
-    },
+    Memory { address: u16, count: u32 },
     /// The bank that is mapped at an address.
     Bank(u16),
     /// What was sent over the serial port since it was last told.
@@ -125,10 +119,7 @@ pub enum StateOrder {
     /// The machine becomes the one that was kept under a number, 0 to 999.
     Back(u32),
     /// Steps up to one of these places, if there are any, but at most so many, whose M-cycles are counted.
-    Profile {
-        steps: u32,
-        places: ArrayVec<Place, 16>,
-    },
+    Profile { steps: u32, conditions: Conditions },
 }
 
 /// What one line asks for, without its newline. `None` if it is wrong, or if it has more than 128 bytes; an empty line is wrong here.
@@ -190,19 +181,9 @@ fn read_profile(count: &[u8], rest: Option<&[u8]>) -> Option<StateOrder>
     ensures order { result ≡ profile_order count.now (words_after rest.entry) }
     ensures numbered { IfSome result IsNumbered }
 {
-    let places = read_any_places(rest)?;
+    let conditions = read_conditions(rest, 0, false)?;
     let steps = read_steps(count)?;
-    Some(StateOrder::Profile { steps, places })
-}
-
-/// The places that the words write, if they all are places and no more than sixteen; no words are none.
-fn read_any_places(rest: Option<&[u8]>) -> Option<ArrayVec<Place, 16>>
-    ensures { option_map (λ v. v.items) result ≡ any_places_of (words_after rest.entry) }
-{
-    match rest {
-        Some(text) => read_places(text),
-        None => Some(ArrayVec::new()),
-    }
+    Some(StateOrder::Profile { steps, conditions })
 }
 
 /// How many bytes `restore N` asks for behind its newline: N. `None`: it is another line.
@@ -250,6 +231,9 @@ fn read_words(line: &[u8]) -> Option<Order>
     let (word, rest) = cut(rest, SPACE);
     if is_word(name, b"until") {
         return read_until(word, rest);
+    }
+    if is_word(name, b"continue") {
+        return read_continue(word, rest);
     }
     let Some(rest) = rest else {
         return with_one(name, word);
@@ -326,12 +310,12 @@ fn with_two(name: &[u8], word: &[u8], other: &[u8]) -> Option<Order>
     if is_word(name, b"until-op") {
         let steps = read_steps(word)?;
         let opcode = read_byte(other)?;
-        return Some(Order::UntilOpcode { steps, opcode });
+        return Some(until_one(steps, Condition::Runs(opcode)));
     }
     if is_word(name, b"until-change") {
         let steps = read_steps(word)?;
         let address = read_address(other)?;
-        return Some(Order::UntilChange { steps, address });
+        return Some(until_one(steps, Condition::Changes(address)));
     }
     if is_word(name, b"set") {
         let address = read_address(word)?;
@@ -352,12 +336,12 @@ fn with_span(name: &[u8], count: &[u8], first: &[u8], last: &[u8]) -> Option<Ord
     if is_word(name, b"until-write") {
         let steps = read_steps(count)?;
         let span = read_span(first, last)?;
-        return Some(Order::UntilWrite { steps, span });
+        return Some(until_one(steps, Condition::Writes(span)));
     }
     if is_word(name, b"until-read") {
         let steps = read_steps(count)?;
         let span = read_span(first, last)?;
-        return Some(Order::UntilRead { steps, span });
+        return Some(until_one(steps, Condition::Reads(span)));
     }
     None
 }
@@ -374,30 +358,135 @@ fn read_span(first: &[u8], last: &[u8]) -> Option<Span>
     Some(Span { first, last })
 }
 
+/// The order of steps up to one condition.
+fn until_one(steps: u32, condition: Condition) -> Order
+    ensures { result ≡ Order.Until steps (record { items = condition ∷ [] }) }
+{
+    let mut conditions = ArrayVec::new();
+    conditions.push(condition);
+    Order::Until { steps, conditions }
+}
+
 /// The order of a count of steps and places, where there are any.
 fn read_until(count: &[u8], rest: Option<&[u8]>) -> Option<Order>
     ensures { result ≡ until_order count.now (words_after rest.entry) }
 {
-    let places = read_places(rest?)?;
+    let conditions = read_conditions(rest, 1, false)?;
     let steps = read_steps(count)?;
-    Some(Order::Until { steps, places })
+    Some(Order::Until { steps, conditions })
 }
 
-/// The places that the words write, if they all are places and no more than sixteen.
-fn read_places(text: &[u8]) -> Option<ArrayVec<Place, 16>>
-    ensures { option_map (λ v. v.items) result ≡ places_of (words_of text.now) }
+/// The order of a count of steps and conditions, where there are any.
+fn read_continue(count: &[u8], rest: Option<&[u8]>) -> Option<Order>
+    ensures { result ≡ continue_order count.now (words_after rest.entry) }
 {
-    let mut places = ArrayVec::new();
-    let mut rest = Some(text);
-    while let Some(text) = rest {
-        let (word, after) = cut(text, SPACE);
-        let place = read_place(word)?;
-        if places.try_push(place).is_err() {
+    let conditions = read_conditions(rest, 1, true)?;
+    let steps = read_steps(count)?;
+    Some(Order::Continue { steps, conditions })
+}
+
+/// The conditions that the words write, if they all are some, and there are no fewer than `least` and no more than sixteen; unless they are
+/// mixed, they are places.
+fn read_conditions(text: Option<&[u8]>, least: usize, is_mixed: bool) -> Option<Conditions>
+    ensures { option_map (λ v. v.items) result ≡ conditions_of least is_mixed (words_after text.entry) }
+{
+    let mut conditions = ArrayVec::new();
+    let mut rest = text;
+    while let Some(left) = rest {
+        let one = read_condition(left, is_mixed)?;
+        if conditions.len() >= MOST_CONDITIONS {
             return None;
         }
-        rest = after;
+        conditions.push(one.condition);
+        rest = one.rest;
     }
-    Some(places)
+    if conditions.len() < least {
+        return None;
+    }
+    Some(conditions)
+}
+
+/// A condition at the beginning of a text, and the text behind it.
+#[derive(Clone, Copy)]
+struct Read<'a> {
+    condition: Condition,
+    rest: Option<&'a [u8]>,
+}
+
+/// The first condition of a text.
+fn read_condition(text: &[u8], is_mixed: bool) -> Option<Read>
+    ensures some { IfSome result (λ read.
+        all_conditions is_mixed (words_of text.now) ≡ both (There read.condition)
+        (all_conditions is_mixed (words_after read.rest))) }
+    ensures none { result ≡ NotThere → all_conditions is_mixed (words_of text.now) ≡ NotThere }
+    ensures shorter { IfSome result (λ read. bytes_left read.rest ≤ length text.now) }
+{
+    let (first, rest) = cut(text, SPACE);
+    let Some(more) = rest else {
+        let place = read_place(first)?;
+        return Some(Read {
+            condition: Condition::At(place),
+            rest: None,
+        });
+    };
+    if is_mixed && is_kind(first) {
+        let (word, rest) = cut(more, SPACE);
+        let condition = read_kind(first, word)?;
+        return Some(Read { condition, rest });
+    }
+    let place = read_place(first)?;
+    Some(Read {
+        condition: Condition::At(place),
+        rest: Some(more),
+    })
+}
+
+/// Whether a word is the first of a condition of two.
+fn is_kind(word: &[u8]) -> bool
+    ensures { result ≡ is_kind word.now }
+{
+    is_word(word, b"op")
+        || is_word(word, b"read")
+        || is_word(word, b"write")
+        || is_word(word, b"change")
+}
+
+/// The condition of two words.
+fn read_kind(kind: &[u8], word: &[u8]) -> Option<Condition>
+    ensures { result ≡ condition_of kind.now word.now }
+{
+    if is_word(kind, b"op") {
+        let opcode = read_byte(word)?;
+        return Some(Condition::Runs(opcode));
+    }
+    if is_word(kind, b"read") {
+        let span = read_span_in(word)?;
+        return Some(Condition::Reads(span));
+    }
+    if is_word(kind, b"write") {
+        let span = read_span_in(word)?;
+        return Some(Condition::Writes(span));
+    }
+    if is_word(kind, b"change") {
+        let address = read_address(word)?;
+        return Some(Condition::Changes(address));
+    }
+    None
+}
+
+/// The addresses of `ADDR` or `ADDR-LAST`.
+fn read_span_in(word: &[u8]) -> Option<Span>
+    ensures { result ≡ span_in word.now }
+{
+    let (first, rest) = cut(word, DASH);
+    let Some(rest) = rest else {
+        return read_span(first, first);
+    };
+    let (last, rest) = cut(rest, DASH);
+    if rest.is_some() {
+        return None;
+    }
+    read_span(first, last)
 }
 
 /// The place of `ADDR` or `BANK:ADDR`.

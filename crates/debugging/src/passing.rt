@@ -7,12 +7,13 @@ ghost use Rattle.memory_map.specs.BusRules.{bus_rules};
 ghost use Rattle.sm83_alu.specs.declared.register_file.Registers.{Registers};
 ghost use Rattle.sm83_processor.specs.FastStep.{IsFast};
 ghost use Rattle.sm83_processor.specs.Steps.{decoded_at};
-ghost use Rattle.debugging.specs.declared.order.Place.{Place};
 ghost use Rattle.debugging.specs.Accesses.{copied_of, instruction_reads, is_in, is_reading, is_writing};
 ghost use Rattle.debugging.specs.Passing.{LoadsNothing, StoresNothing, instruction_writes, only_dma, pushed_writes};
+ghost use Rattle.debugging.specs.Quiet.{is_aim, is_any};
 ghost use Rattle.debugging.specs.Run.{is_before};
 
-use crate::order::{Place, Span};
+use crate::aims::Aim;
+use crate::order::Span;
 use crate::probe::{
     COPIED, DMA, copied_of, holds, indirect, instruction_reads, is_in, operand_reads,
 };
@@ -72,98 +73,50 @@ const ACCESSES: [bool; 256] = [
     true, true, true, false, false, true, false, true, false, false, true, false, false, false, false, true,
 ];
 
-/// A watch for one of these places, in whichever bank.
+/// A watch for one of these aims.
 #[derive(Clone, Copy)]
-pub(crate) struct PlaceWatch<'a> {
-    pub(crate) places: &'a [Place],
+pub(crate) struct AimWatch<'a> {
+    pub(crate) aims: &'a [Aim],
 }
 
-/// A watch for an instruction with this opcode.
-#[derive(Clone, Copy)]
-pub(crate) struct OpcodeWatch {
-    pub(crate) opcode: u8,
-}
+impl<'a> Watch for AimWatch<'a> {
+    ghost use Rattle.debugging.specs.Quiet.{is_any};
 
-/// A watch for another byte than this at an address.
-#[derive(Clone, Copy)]
-pub(crate) struct ChangeWatch {
-    pub(crate) address: u16,
-    pub(crate) byte: u8,
-}
-
-/// A watch for a step that writes one of these addresses.
-#[derive(Clone, Copy)]
-pub(crate) struct WriteWatch {
-    pub(crate) span: Span,
-}
-
-/// A watch for a step that reads one of these addresses.
-#[derive(Clone, Copy)]
-pub(crate) struct ReadWatch {
-    pub(crate) span: Span,
-}
-
-impl<'a> Watch for PlaceWatch<'a> {
-    ghost use Rattle.debugging.specs.Run.{is_at};
-
-    ghost passes = { λ watch p. is_at watch.places.now p ≡ false };
+    ghost passes = { λ watch p. is_any watch.aims.now p ≡ false };
 
     #[inline(always)]
     fn may_end(&self, processor: &Processor<Bus>) -> bool {
-        may_be_at(self.places, processor)
+        may_be_any(self.aims, processor)
     }
 }
 
-impl Watch for OpcodeWatch {
-    ghost use Rattle.debugging.specs.Run.{is_before};
-
-    ghost passes = { λ watch p. is_before watch.opcode p ≡ false };
-
-    #[inline(always)]
-    fn may_end(&self, processor: &Processor<Bus>) -> bool {
-        will_run(self.opcode, processor)
-    }
-}
-
-impl Watch for ChangeWatch {
-    ghost use Rattle.debugging.specs.Run.{is_changed};
-
-    ghost passes = { λ watch p. is_changed watch.address watch.byte p ≡ false };
-
-    #[inline(always)]
-    fn may_end(&self, processor: &Processor<Bus>) -> bool {
-        processor.memory.peek(self.address) != self.byte
-    }
-}
-
-impl Watch for WriteWatch {
-    ghost use Rattle.debugging.specs.Accesses.{is_writing};
-
-    ghost passes = { λ watch p. is_writing watch.span p ≡ false };
-
-    #[inline(always)]
-    fn may_end(&self, processor: &Processor<Bus>) -> bool {
-        may_write(processor, &self.span)
-    }
-}
-
-impl Watch for ReadWatch {
-    ghost use Rattle.debugging.specs.Accesses.{is_reading};
-
-    ghost passes = { λ watch p. is_reading watch.span p ≡ false };
-
-    #[inline(always)]
-    fn may_end(&self, processor: &Processor<Bus>) -> bool {
-        may_read(processor, &self.span)
-    }
-}
-
-/// Whether PC is one of the addresses of these places, in whichever bank.
-fn may_be_at(places: &[Place], processor: &Processor<Bus>) -> bool
-    ensures { result ≡ list_any (λ (place : Place). place.address == processor.now.registers.pc) places.now }
+/// Whether one of these aims may be met before the next step, which is fast.
+#[inline(always)]
+fn may_be_any(aims: &[Aim], processor: &Processor<Bus>) -> bool
+    requires { IsFast bus_rules processor.now }
+    ensures { result ≡ false → is_any aims.now processor.now ≡ false }
 {
-    let pc = processor.registers.pc;
-    places.iter().any(|place| place.address == pc)
+    for aim in aims {
+        if may_be(*aim, processor) {
+            return true;
+        }
+    }
+    false
+}
+
+/// Whether this aim may be. Of a place only the address is looked at.
+#[inline(always)]
+fn may_be(aim: Aim, processor: &Processor<Bus>) -> bool
+    requires { IsFast bus_rules processor.now }
+    ensures { result ≡ false → is_aim processor.now aim ≡ false }
+{
+    match aim {
+        Aim::Place(place) => place.address == processor.registers.pc,
+        Aim::Opcode(opcode) => will_run(opcode, processor),
+        Aim::Read(span) => may_read(processor, &span),
+        Aim::Write(span) => may_write(processor, &span),
+        Aim::Other(address, byte) => processor.memory.peek(address) != byte,
+    }
 }
 
 /// Whether the next step, which is fast, runs an instruction with this opcode.

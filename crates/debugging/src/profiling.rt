@@ -1,15 +1,17 @@
 //! A run of which the M-cycles are counted.
 
-ghost use Rattle.std.specs.Prelude.{◌≡◌, ◌<◌, ◌+◌, ◌^◌, ℕ, length, nat_lt};
+ghost use Rattle.std.specs.Prelude.{◌≡◌, ◌<◌, ◌≤◌, ◌+◌, ◌^◌, ℕ, length, nat_lt};
+ghost use Rattle.debugging.specs.Answers.{until_steps};
 ghost use Rattle.debugging.specs.Counting.{IsWithin};
 ghost use Rattle.debugging.specs.Profile.{no_cycles, with_step, with_steps};
-ghost use Rattle.debugging.specs.Quiet.{HasRom};
-ghost use Rattle.debugging.specs.Run.{after_steps_of, is_at, processor_of, steps_up_to};
+ghost use Rattle.debugging.specs.Quiet.{HasRom, is_any};
+ghost use Rattle.debugging.specs.Run.{after_steps_of, processor_of, steps_up_to};
 
+use crate::aims::{Aim, aims_of, is_any};
 use crate::banks::rom_offset;
 use crate::cycles::{CycleCounts, begins_at};
-use crate::order::Place;
-use crate::run::{Run, RunStep, RunUntil, is_at};
+use crate::order::Condition;
+use crate::run::{Run, RunStep, RunUntil};
 
 /// One step, whose M-cycles are counted. Conditions: the ROM has so many bytes, each with a count, and there is room for more.
 fn step_counted(run: Run, rom: usize, counts: &mut CycleCounts) -> Run
@@ -30,21 +32,35 @@ fn step_counted(run: Run, rom: usize, counts: &mut CycleCounts) -> Run
     run
 }
 
-/// Steps up to one of these places, but at most `limit`, whose M-cycles are counted. The first step is made wherever it begins. Conditions:
-/// the ROM has so many bytes, and nothing was counted yet.
+/// Steps up to one of these conditions, but at most `limit`, whose M-cycles are counted. The first step is made wherever it begins. Conditions:
+/// there are sixteen of them at most, the ROM has so many bytes, and nothing was counted yet.
 pub(crate) fn run_counted(
     run: Run,
-    places: &[Place],
+    conditions: &[Condition],
     rom: usize,
     limit: u32,
     counts: &mut CycleCounts,
 ) -> RunUntil
+    requires few { length conditions.now ≤ 16 }
     requires rom { HasRom rom (processor_of run).memory }
     requires none { counts.old ≡ no_cycles rom }
-    ensures run { result.run ≡ after_steps_of (steps_up_to (is_at places.now) limit (processor_of run)) run }
-    ensures there { result.is_there ≡ nat_lt (steps_up_to (is_at places.now) limit (processor_of run)) limit }
+    ensures run { result.run ≡ after_steps_of (until_steps limit conditions.now run) run }
+    ensures there { result.is_there ≡ nat_lt (until_steps limit conditions.now run) limit }
+    ensures counted { counts.new ≡ with_steps (until_steps limit conditions.now run) (processor_of run) counts.old }
+    ensures size { length counts.new.rom ≡ rom }
+{
+    let aims = aims_of(conditions, run.processor());
+    count_up_to(run, aims.as_slice(), rom, limit, counts)
+}
+
+/// The same, of aims.
+fn count_up_to(run: Run, aims: &[Aim], rom: usize, limit: u32, counts: &mut CycleCounts) -> RunUntil
+    requires rom { HasRom rom (processor_of run).memory }
+    requires none { counts.old ≡ no_cycles rom }
+    ensures run { result.run ≡ after_steps_of (steps_up_to (is_any aims.now) limit (processor_of run)) run }
+    ensures there { result.is_there ≡ nat_lt (steps_up_to (is_any aims.now) limit (processor_of run)) limit }
     ensures counted { counts.new ≡
-        with_steps (steps_up_to (is_at places.now) limit (processor_of run)) (processor_of run) counts.old }
+        with_steps (steps_up_to (is_any aims.now) limit (processor_of run)) (processor_of run) counts.old }
     ensures size { length counts.new.rom ≡ rom }
 {
     run.no_step();
@@ -53,7 +69,7 @@ pub(crate) fn run_counted(
     while left > 0 {
         now = step_counted(now, rom, counts);
         left -= 1;
-        if left > 0 && is_at(places, rom, now.processor()) {
+        if left > 0 && is_any(aims, rom, now.processor()) {
             return RunUntil {
                 run: now,
                 is_there: true,

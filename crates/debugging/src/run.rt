@@ -10,28 +10,24 @@ ghost use Rattle.sm83_processor.specs.declared.processor.Processor.{Processor};
 ghost use Rattle.snapshot.specs.Legal.{IsOfImage};
 ghost use Rattle.debugging.specs.States.{after_power, after_snapshot, is_snapshot, rom_of, with_machine};
 ghost use Rattle.debugging.specs.Setting.{byte_set, register_set};
-ghost use Rattle.debugging.specs.Answers.{until_change_steps, until_opcode_steps, until_read_steps, until_steps, until_write_steps};
+ghost use Rattle.debugging.specs.Answers.{until_steps};
+ghost use Rattle.debugging.specs.Conditions.{holds, number_of};
 ghost use Rattle.debugger.specs.Run.{HasPassed};
-ghost use Rattle.debugging.specs.Run.{after_frame, after_frames, after_seconds, after_steps_of, begun, is_at, is_bank, is_before, is_changed, is_place, processor_of, steps_up_to};
-ghost use Rattle.debugging.specs.Quiet.{HasRom, IsQuietFor, Makes, MakesIn, StopsBefore, StopsIn, has_pc, is_aim, is_interrupted, is_next, is_waiting};
+ghost use Rattle.debugging.specs.Run.{after_frame, after_frames, after_seconds, after_steps_of, begun, processor_of, steps_up_to};
+ghost use Rattle.debugging.specs.Quiet.{HasRom, IsQuietFor, Makes, MakesIn, StopsBefore, StopsIn, is_any};
 
-use crate::banks::bank_at;
-use crate::order::{Place, Span};
-use crate::passing::{ChangeWatch, OpcodeWatch, PlaceWatch, ReadWatch, WriteWatch};
-use crate::probe::{is_reading, is_writing};
+use crate::aims::{Aim, addresses_of, aims_of, is_any, number_of};
+use crate::order::Condition;
+use crate::passing::AimWatch;
 use crate::registers::{RegisterValue, with_register};
-use arrayvec::ArrayVec;
 use cartridge::Cartridge;
 use circular_buffer::HeapCircularBuffer;
 use debugger::{Breaks, Debugger, RunRoom, WatchedStep};
-use machine::{Executed, Input, Machine, Memory, Processor, Stepped, Watch, Watched};
+use machine::{Executed, Input, Machine, Processor, Stepped, Watch, Watched};
 use memory_map::Bus;
 use snapshot::{decode_into, powered};
 use std::alloc::{AllocError, Global};
 use std::marker::Model;
-
-/// The address of P1, whose low bits are the buttons that are looked at.
-const JOYPAD: u16 = 0xff00;
 
 /// The most bytes that are kept until they are told: the last ones.
 const MOST_SENT: usize = 65_536;
@@ -70,11 +66,19 @@ pub(crate) struct RunStep {
     pub(crate) stepped: Stepped,
 }
 
-/// A run that went up to a place, and whether it stopped there before all its steps were made.
+/// A run that went up to an aim, and whether it stopped there before all its steps were made.
 #[derive(Drop)]
 pub(crate) struct RunUntil {
     pub(crate) run: Run,
     pub(crate) is_there: bool,
+}
+
+/// The same, and the number of the first condition that holds there.
+#[derive(Drop)]
+pub(crate) struct RunMet {
+    pub(crate) run: Run,
+    pub(crate) is_there: bool,
+    pub(crate) number: usize,
 }
 
 /// A run whose machine may have been given as its snapshot, and whether it was.
@@ -82,23 +86,6 @@ pub(crate) struct RunUntil {
 pub(crate) struct RunRestored {
     pub(crate) run: Run,
     pub(crate) is_restored: bool,
-}
-
-/// Where a run stops.
-#[derive(Drop)]
-pub(crate) enum Aim<'a> {
-    /// At one of these addresses, in whichever bank.
-    Addresses(&'a Breaks<'a>),
-    /// At one of these places.
-    Places(&'a [Place]),
-    /// Before an instruction with this opcode.
-    Opcode(u8),
-    /// Where the byte at an address is another than this.
-    Changed(u16, u8),
-    /// Before a step that writes one of these addresses.
-    Writes(Span),
-    /// Before a step that reads one of these addresses.
-    Reads(Span),
 }
 
 impl Run {
@@ -178,98 +165,62 @@ impl Run {
         &mut self,
         room: &mut RunRoom,
         watch: &W,
-        aim: &Aim,
+        aims: &[Aim],
         rom: usize,
         limit: u32,
     ) -> bool
         requires rom { HasRom rom (processor_of self.old).memory }
-        requires watch { (p : Processor BusState) → W.passes watch.now p → is_aim aim.now p ≡ false }
+        requires watch { (p : Processor BusState) → W.passes watch.now p → is_any aims.now p ≡ false }
         requires some { 0 < limit }
         requires quiet { IsQuietFor limit (processor_of self.old) }
-        ensures made { result ≡ false → Makes (is_aim aim.now) limit self.old self.new }
-        ensures there { result ≡ true → StopsBefore (is_aim aim.now) limit self.old self.new }
+        ensures made { result ≡ false → Makes (is_any aims.now) limit self.old self.new }
+        ensures there { result ≡ true → StopsBefore (is_any aims.now) limit self.old self.new }
     {
-        step_up_to(&mut self.debugger, room, watch, aim, rom, limit)
+        step_up_to(&mut self.debugger, room, watch, aims, rom, limit)
     }
 
-    /// Steps up to one of these places, but at most `limit`. The first step is made wherever it begins. Condition: the ROM has so many bytes.
-    #[inline(never)]
-    pub(crate) fn run_until_place(
-        self,
-        places: ArrayVec<Place, 16>,
-        rom: usize,
-        limit: u32,
-    ) -> RunUntil
-        requires { HasRom rom (processor_of self).memory }
-        ensures run { result.run ≡ after_steps_of (until_steps limit places.items self) self }
-        ensures there { result.is_there ≡ nat_lt (until_steps limit places.items self) limit }
+    /// Steps up to one of these conditions, but at most `limit`. The first step is made wherever it begins. Conditions: there are sixteen of them
+    /// at most, and the ROM has so many bytes.
+    pub(crate) fn run_until(self, conditions: &[Condition], rom: usize, limit: u32) -> RunMet
+        requires few { length conditions.now ≤ 16 }
+        requires rom { HasRom rom (processor_of self).memory }
+        ensures run { result.run ≡ after_steps_of (until_steps limit conditions.now self) self }
+        ensures there { result.is_there ≡ nat_lt (until_steps limit conditions.now self) limit }
+        ensures number { result.number ≡
+            number_of (holds (processor_of self).memory (processor_of result.run)) conditions.now }
     {
-        match addresses_of(places.as_slice()) {
-            Some(addresses) => {
-                let breaks = Breaks::of(addresses.as_slice());
-                self.run_up_to(&breaks, &Aim::Addresses(&breaks), rom, limit)
-            }
-            None => {
-                let watch = PlaceWatch {
-                    places: places.as_slice(),
-                };
-                self.run_up_to(&watch, &Aim::Places(watch.places), rom, limit)
-            }
+        let aims = aims_of(conditions, self.processor());
+        let RunUntil { run, is_there } = self.run_to(aims.as_slice(), rom, limit);
+        let number = number_of(aims.as_slice(), rom, run.processor());
+        RunMet {
+            run,
+            is_there,
+            number,
         }
     }
 
-    /// Steps up to an instruction with this opcode, but at most `limit`. The first step is made wherever it begins. Condition: the ROM has so
-    /// many bytes.
-    #[inline(never)]
-    pub(crate) fn run_until_opcode(self, opcode: u8, rom: usize, limit: u32) -> RunUntil
+    /// Steps up to one of these aims, but at most `limit`. The first step is made wherever it begins. Condition: the ROM has so many bytes.
+    fn run_to(self, aims: &[Aim], rom: usize, limit: u32) -> RunUntil
         requires { HasRom rom (processor_of self).memory }
-        ensures run { result.run ≡ after_steps_of (until_opcode_steps limit opcode self) self }
-        ensures there { result.is_there ≡ nat_lt (until_opcode_steps limit opcode self) limit }
+        ensures run { result.run ≡ after_steps_of (steps_up_to (is_any aims.now) limit (processor_of self)) self }
+        ensures there { result.is_there ≡ nat_lt (steps_up_to (is_any aims.now) limit (processor_of self)) limit }
     {
-        self.run_up_to(&OpcodeWatch { opcode }, &Aim::Opcode(opcode), rom, limit)
+        match addresses_of(aims) {
+            Some(addresses) => {
+                let breaks = Breaks::of(addresses.as_slice());
+                self.run_up_to(&breaks, aims, rom, limit)
+            }
+            None => self.run_up_to(&AimWatch { aims }, aims, rom, limit),
+        }
     }
 
-    /// Steps up to and with the first that leaves another byte at an address, but at most `limit`. Condition: the ROM has so many bytes.
+    /// The same, by a watch. Condition: it lets none of them pass.
     #[inline(never)]
-    pub(crate) fn run_until_change(self, address: u16, rom: usize, limit: u32) -> RunUntil
-        requires { HasRom rom (processor_of self).memory }
-        ensures run { result.run ≡ after_steps_of (until_change_steps limit address self) self }
-        ensures there { result.is_there ≡ nat_lt (until_change_steps limit address self) limit }
-    {
-        let byte = self.debugger.machine().peek(address);
-        let watch = ChangeWatch { address, byte };
-        self.run_up_to(&watch, &Aim::Changed(address, byte), rom, limit)
-    }
-
-    /// Steps up to one that writes one of these addresses, but at most `limit`. The first is made whatever it does. Condition: the ROM has so
-    /// many bytes.
-    #[inline(never)]
-    pub(crate) fn run_until_write(self, span: Span, rom: usize, limit: u32) -> RunUntil
-        requires { HasRom rom (processor_of self).memory }
-        ensures run { result.run ≡ after_steps_of (until_write_steps limit span self) self }
-        ensures there { result.is_there ≡ nat_lt (until_write_steps limit span self) limit }
-    {
-        self.run_up_to(&WriteWatch { span }, &Aim::Writes(span), rom, limit)
-    }
-
-    /// Steps up to one that reads one of these addresses, but at most `limit`. The first is made whatever it does. Condition: the ROM has so
-    /// many bytes.
-    #[inline(never)]
-    pub(crate) fn run_until_read(self, span: Span, rom: usize, limit: u32) -> RunUntil
-        requires { HasRom rom (processor_of self).memory }
-        ensures run { result.run ≡ after_steps_of (until_read_steps limit span self) self }
-        ensures there { result.is_there ≡ nat_lt (until_read_steps limit span self) limit }
-    {
-        self.run_up_to(&ReadWatch { span }, &Aim::Reads(span), rom, limit)
-    }
-
-    /// Steps up to an aim, but at most `limit`. The first step is made wherever it begins. Conditions: the ROM has so many bytes, and the
-    /// watch lets no aim pass.
-    fn run_up_to<W: Watch>(self, watch: &W, aim: &Aim, rom: usize, limit: u32) -> RunUntil
+    fn run_up_to<W: Watch>(self, watch: &W, aims: &[Aim], rom: usize, limit: u32) -> RunUntil
         requires rom { HasRom rom (processor_of self).memory }
-        requires watch { (p : Processor BusState) → W.passes watch.now p → is_aim aim.now p ≡ false }
-        ensures run { result.run ≡ after_steps_of (steps_up_to (is_aim aim.now) limit (processor_of self)) self }
-        ensures there { result.is_there ≡ nat_lt (steps_up_to (is_aim aim.now) limit (processor_of self)) limit }
+        requires watch { (p : Processor BusState) → W.passes watch.now p → is_any aims.now p ≡ false }
+        ensures run { result.run ≡ after_steps_of (steps_up_to (is_any aims.now) limit (processor_of self)) self }
+        ensures there { result.is_there ≡ nat_lt (steps_up_to (is_any aims.now) limit (processor_of self)) limit }
     {
         self.no_step();
         // Made here, and this is compiled into its one caller, so that the copy into the history becomes one `memcpy`.
@@ -281,7 +232,7 @@ impl Run {
             if quiet == 0 {
                 run = run.step().run;
                 left -= 1;
-                if left > 0 && is_aim(aim, rom, run.processor()) {
+                if left > 0 && is_any(aims, rom, run.processor()) {
                     return RunUntil {
                         run,
                         is_there: true,
@@ -289,14 +240,14 @@ impl Run {
                 }
                 continue;
             }
-            if run.quiet_up_to(&mut room, watch, aim, rom, quiet) {
+            if run.quiet_up_to(&mut room, watch, aims, rom, quiet) {
                 return RunUntil {
                     run,
                     is_there: true,
                 };
             }
             left -= quiet;
-            if left > 0 && is_aim(aim, rom, run.processor()) {
+            if left > 0 && is_any(aims, rom, run.processor()) {
                 return RunUntil {
                     run,
                     is_there: true,
@@ -471,15 +422,15 @@ fn step_up_to<W: Watch>(
     debugger: &mut Debugger,
     room: &mut RunRoom,
     watch: &W,
-    aim: &Aim,
+    aims: &[Aim],
     rom: usize,
     limit: u32,
 ) -> bool
     requires rom { HasRom rom debugger.old.machine.processor.memory }
-    requires watch { (p : Processor BusState) → W.passes watch.now p → is_aim aim.now p ≡ false }
+    requires watch { (p : Processor BusState) → W.passes watch.now p → is_any aims.now p ≡ false }
     requires some { 0 < limit }
-    ensures made { result ≡ false → MakesIn (is_aim aim.now) limit debugger.old debugger.new }
-    ensures there { result ≡ true → StopsIn (is_aim aim.now) limit debugger.old debugger.new }
+    ensures made { result ≡ false → MakesIn (is_any aims.now) limit debugger.old debugger.new }
+    ensures there { result ≡ true → StopsIn (is_any aims.now) limit debugger.old debugger.new }
 {
     // the history is within its size, so a run of no step leaves it as it is
     let _held = debugger.history_len();
@@ -489,7 +440,7 @@ fn step_up_to<W: Watch>(
         if made >= limit {
             return false;
         }
-        if is_aim(aim, rom, debugger.machine().processor()) {
+        if is_any(aims, rom, debugger.machine().processor()) {
             return true;
         }
     }
@@ -519,99 +470,4 @@ fn quiet_steps(processor: &Processor<Bus>) -> u32
         return MOST_QUIET;
     }
     ((left - 1) / MOST_CYCLES).min(MOST_QUIET)
-}
-
-/// The addresses of these places, if each of them stands for whichever bank.
-fn addresses_of(places: &[Place]) -> Option<ArrayVec<u16, 16>>
-    ensures { IfSome result (λ addresses. (p : Processor BusState) → is_at places.now p ≡ has_pc addresses.items p) }
-{
-    let mut addresses = ArrayVec::new();
-    for place in places {
-        if place.bank.is_some() || addresses.try_push(place.address).is_err() {
-            return None;
-        }
-    }
-    Some(addresses)
-}
-
-/// Whether PC is one of these addresses.
-fn has_pc(breaks: &Breaks, processor: &Processor<Bus>) -> bool
-    ensures { result ≡ has_pc breaks.now processor.now }
-{
-    breaks.has(processor.registers.pc)
-}
-
-/// Whether a run is where it stops. Condition: the ROM has so many bytes.
-#[inline(always)]
-fn is_aim(aim: &Aim, rom: usize, processor: &Processor<Bus>) -> bool
-    requires { HasRom rom processor.now.memory }
-    ensures { result ≡ is_aim aim.now processor.now }
-{
-    match aim {
-        Aim::Addresses(breaks) => has_pc(breaks, processor),
-        Aim::Places(places) => is_at(places, rom, processor),
-        Aim::Opcode(opcode) => is_before(*opcode, processor),
-        Aim::Changed(address, byte) => processor.memory.peek(*address) != *byte,
-        Aim::Writes(span) => is_writing(processor, *span),
-        Aim::Reads(span) => is_reading(processor, *span),
-    }
-}
-
-pub(crate) fn is_at(places: &[Place], rom: usize, processor: &Processor<Bus>) -> bool
-    requires { HasRom rom processor.now.memory }
-    ensures { result ≡ is_at places.now processor.now }
-{
-    for place in places {
-        if is_place(*place, rom, processor) {
-            return true;
-        }
-    }
-    false
-}
-
-fn is_place(place: Place, rom: usize, processor: &Processor<Bus>) -> bool
-    requires { HasRom rom processor.now.memory }
-    ensures { result ≡ is_place processor.now place }
-{
-    if place.address != processor.registers.pc {
-        return false;
-    }
-    match place.bank {
-        None => true,
-        Some(bank) => bank == bank_at(&processor.memory, rom, place.address),
-    }
-}
-
-/// Whether the next step runs an instruction with this opcode.
-fn is_before(opcode: u8, processor: &Processor<Bus>) -> bool
-    ensures { result ≡ is_before opcode processor.now }
-{
-    is_next(opcode, processor)
-}
-
-fn is_next(opcode: u8, processor: &Processor<Bus>) -> bool
-    ensures { result ≡ is_next opcode processor.now }
-{
-    if is_waiting(processor) || is_interrupted(processor) {
-        return false;
-    }
-    Bus::read(&processor.memory, processor.registers.pc) == opcode
-}
-
-/// Whether nothing ends a wait.
-fn is_waiting(processor: &Processor<Bus>) -> bool
-    ensures { result ≡ is_waiting processor.now }
-{
-    let state = &processor.state;
-    let memory = &processor.memory;
-    state.locked
-        || (state.stopped && Bus::read(memory, JOYPAD) % 16 == 15)
-        || (state.halted && Bus::pending_interrupts(memory) == 0)
-}
-
-/// Whether an interrupt is taken, if the processor does not wait.
-fn is_interrupted(processor: &Processor<Bus>) -> bool
-    ensures { result ≡ is_interrupted processor.now }
-{
-    processor.state.ime && Bus::pending_interrupts(&processor.memory) != 0
 }

@@ -19,7 +19,7 @@ ghost use Rattle.debugging.specs.Switching.{HasSwitched, IsNotSwitched, IsRefuse
 use crate::answering::{write_place, write_wrong};
 use crate::cycles::CycleCounts;
 use crate::error::DebugError;
-use crate::order::{Place, StateOrder};
+use crate::order::{Condition, StateOrder};
 use crate::profiling::run_counted;
 use crate::run::{Run, RunRestored, RunUntil};
 use cartridge::Cartridge;
@@ -70,8 +70,8 @@ pub(crate) fn switch<W: Output>(
             number,
             out,
         ),
-        StateOrder::Profile { steps, places } => {
-            profile(alloc, cartridge, run, steps, places.as_slice(), out)
+        StateOrder::Profile { steps, conditions } => {
+            profile(alloc, cartridge, run, steps, conditions.as_slice(), out)
         }
     }
 }
@@ -102,23 +102,24 @@ fn power<W: Output>(
     }
 }
 
-/// Makes steps whose M-cycles are counted, and tells them. Condition: the machine is one of the cartridge.
+/// Makes steps whose M-cycles are counted, and tells them. Conditions: the machine is one of the cartridge, and there are sixteen conditions at most.
 fn profile<W: Output>(
     alloc: Global,
     cartridge: &Cartridge,
     run: Run,
     steps: u32,
-    places: &[Place],
+    conditions: &[Condition],
     out: &mut W,
 ) -> Result<Run, DebugError>
-    requires { IsOfImage cartridge.now run.debugger.machine }
+    requires of { IsOfImage cartridge.now run.debugger.machine }
+    requires few { length conditions.now ≤ 16 }
     ensures of { IfOk result (λ now. IsOfImage cartridge.now now.debugger.machine) }
-    ensures run { IfOk result (λ now. now ≡ after_steps_of (until_steps steps places.now run) run) }
+    ensures run { IfOk result (λ now. now ≡ after_steps_of (until_steps steps conditions.now run) run) }
     ensures ok { OnOk result
         (Appends (W.contents out.old) (W.contents out.new)
-        (profile_text (until_steps steps places.now run) steps run)) }
+        (profile_text (until_steps steps conditions.now run) steps run)) }
     ensures err { IfErr result (λ why.
-        IsRefusedAnswer why (profile_text (until_steps steps places.now run) steps run) (W.contents out.old)
+        IsRefusedAnswer why (profile_text (until_steps steps conditions.now run) steps run) (W.contents out.old)
         (W.contents out.new)) }
     ensures output { IfErr result (λ why. why ≡ DebugError.Output → W.has_failed out.new ≡ true) }
 {
@@ -127,7 +128,7 @@ fn profile<W: Output>(
         drop(run);
         return Err(DebugError::Memory);
     };
-    let RunUntil { run, is_there } = run_counted(run, places, rom, steps, &mut counts);
+    let RunUntil { run, is_there } = run_counted(run, conditions, rom, steps, &mut counts);
     match write_profile(is_there, run.processor(), &counts, out) {
         Ok(()) => Ok(run),
         Err(_) => {

@@ -1,12 +1,12 @@
-use Rattle.std.proofs.Common.{◌≡◌, ◌∙◌, ◌+◌, ◌<◌, ℕ, false, ap, sym, subst, arith}
+use Rattle.std.proofs.Common.{◌≡◌, ◌∙◌, ◌+◌, ◌<◌, ℕ, List, false, ap, sym, subst, arith}
 use Rattle.memory_map.specs.State.{BusState}
 use Rattle.machine.specs.Machine.{MachineState}
 use Rattle.sm83_processor.specs.declared.processor.Processor.{Processor}
 use Rattle.debugger.specs.History.{DebuggerState}
 use Rattle.debugger.specs.Run.{HasPassed}
 use Rattle.debugger.proofs.Histories.{not_begun, pass_on}
-use Rattle.debugging.specs.declared.run.Aim.{Aim}
-use Rattle.debugging.specs.Quiet.{MakesIn, is_aim}
+use Rattle.debugging.specs.declared.aims.Aim.{Aim}
+use Rattle.debugging.specs.Quiet.{MakesIn, is_any}
 use Rattle.debugging.proofs.Kept.{rom_after}
 use Rattle.debugging.proofs.run.step_up_to.Goals as goal
 
@@ -20,20 +20,20 @@ loop-made-init g c = record {
   due = c.requires.some;
 }
 
-abbrev Elsewhere : Aim → Processor BusState → Type 0
-Elsewhere aim p = is_aim aim p ≡ false
+abbrev Elsewhere : List Aim → Processor BusState → Type 0
+Elsewhere aims p = is_any aims p ≡ false
 
 -- the steps so far, and those that a watch let pass next
-more : (aim : Aim) (passes : Processor BusState → Type 0) → ((p : Processor BusState) → passes p → Elsewhere aim p) → (m n : ℕ) (d e f : DebuggerState) → HasPassed (Elsewhere aim) m d e
-    → (0 < m → Elsewhere aim e.machine.processor) → HasPassed passes n e f → HasPassed (Elsewhere aim) (m + n) d f
-more aim passes lets m n d e f so_far here next = pass_on (Elsewhere aim) m n d e f so_far here (record { run = next.run; past = λ k some below. lets _ (next.past k some below) })
+more : (aims : List Aim) (passes : Processor BusState → Type 0) → ((p : Processor BusState) → passes p → Elsewhere aims p) → (m n : ℕ) (d e f : DebuggerState) → HasPassed (Elsewhere aims) m d e
+    → (0 < m → Elsewhere aims e.machine.processor) → HasPassed passes n e f → HasPassed (Elsewhere aims) (m + n) d f
+more aims passes lets m n d e f so_far here next = pass_on (Elsewhere aims) m n d e f so_far here (record { run = next.run; past = λ k some below. lets _ (next.past k some below) })
 
 pub loop-made-preserved : goal.loop-made-preserved
 loop-made-preserved g c =
     let known = c.loop-made.invariant in
     record {
-      run = more c.args.aim.now (g.W.Watch.passes c.args.watch.now) c.requires.watch c.loop-made.made c.step_on-made.result c.args.debugger.now c.loop-made.debugger c.step_on-made.new.debugger known.run known.here c.step_on-made.ensures.run;
-      here = λ some. ap (is_aim c.args.aim.now) (sym (c.processor.ensures ∙ ap (λ (m : MachineState). m.processor) c.machine.ensures)) ∙ sym c.is_aim.ensures ∙ c.if-is_aim.false;
+      run = more c.args.aims.now (g.W.Watch.passes c.args.watch.now) c.requires.watch c.loop-made.made c.step_on-made.result c.args.debugger.now c.loop-made.debugger c.step_on-made.new.debugger known.run known.here c.step_on-made.ensures.run;
+      here = λ some. ap (is_any c.args.aims.now) (sym (c.processor.ensures ∙ ap (λ (m : MachineState). m.processor) c.machine.ensures)) ∙ sym c.is_any.ensures ∙ c.if-is_any.false;
       due = c.if-made-limit.false;
     }
 
@@ -42,26 +42,26 @@ returns-then-made-limit-clause-made g c = λ _.
     let known = c.loop-made.invariant in
     let all : c.loop-made.made + c.step_on-made.result ≡ c.args.limit = omega (arith, known.due, c.step_on-made.ensures.most, c.if-made-limit.true) in
     let passed =
-    more c.args.aim.now (g.W.Watch.passes c.args.watch.now) c.requires.watch c.loop-made.made c.step_on-made.result c.args.debugger.now c.loop-made.debugger c.step_on-made.new.debugger known.run known.here c.step_on-made.ensures.run in
-    subst (λ (n : ℕ). MakesIn (is_aim c.args.aim.now) n c.args.debugger.now c.step_on-made.new.debugger) all
+    more c.args.aims.now (g.W.Watch.passes c.args.watch.now) c.requires.watch c.loop-made.made c.step_on-made.result c.args.debugger.now c.loop-made.debugger c.step_on-made.new.debugger known.run known.here c.step_on-made.ensures.run in
+    subst (λ (n : ℕ). MakesIn (is_any c.args.aims.now) n c.args.debugger.now c.step_on-made.new.debugger) all
     (record { some = omega (arith, all, c.requires.some); past = passed.past; run = passed.run })
 
-pub returns-then-is_aim-clause-there : goal.returns-then-is_aim-clause-there
-returns-then-is_aim-clause-there g c = λ _.
+pub returns-then-is_any-clause-there : goal.returns-then-is_any-clause-there
+returns-then-is_any-clause-there g c = λ _.
     let known = c.loop-made.invariant in
     let passed =
-    more c.args.aim.now (g.W.Watch.passes c.args.watch.now) c.requires.watch c.loop-made.made c.step_on-made.result c.args.debugger.now c.loop-made.debugger c.step_on-made.new.debugger known.run known.here c.step_on-made.ensures.run in
+    more c.args.aims.now (g.W.Watch.passes c.args.watch.now) c.requires.watch c.loop-made.made c.step_on-made.result c.args.debugger.now c.loop-made.debugger c.step_on-made.new.debugger known.run known.here c.step_on-made.ensures.run in
     record {
       steps = c.loop-made.made + c.step_on-made.result;
       made = record { some = omega (arith, c.step_on-made.ensures.some); past = passed.past; run = passed.run };
       due = c.if-made-limit.false;
-      there = ap (is_aim c.args.aim.now) (sym (c.processor.ensures ∙ ap (λ (m : MachineState). m.processor) c.machine.ensures)) ∙ sym c.is_aim.ensures ∙ c.if-is_aim.true;
+      there = ap (is_any c.args.aims.now) (sym (c.processor.ensures ∙ ap (λ (m : MachineState). m.processor) c.machine.ensures)) ∙ sym c.is_any.ensures ∙ c.if-is_any.true;
     }
 
-pub is_aim-requires : goal.is_aim-requires
-is_aim-requires g c =
+pub is_any-requires : goal.is_any-requires
+is_any-requires g c =
     let known = c.loop-made.invariant in
     let passed =
-    more c.args.aim.now (g.W.Watch.passes c.args.watch.now) c.requires.watch c.loop-made.made c.step_on-made.result c.args.debugger.now c.loop-made.debugger c.step_on-made.new.debugger known.run known.here c.step_on-made.ensures.run in
+    more c.args.aims.now (g.W.Watch.passes c.args.watch.now) c.requires.watch c.loop-made.made c.step_on-made.result c.args.debugger.now c.loop-made.debugger c.step_on-made.new.debugger known.run known.here c.step_on-made.ensures.run in
     rom_after c.args.rom (c.loop-made.made + c.step_on-made.result) c.args.debugger.now.machine.processor c.processor.result.now c.requires.rom
     (c.processor.ensures ∙ ap (λ (m : MachineState). m.processor) c.machine.ensures ∙ ap (λ (d : DebuggerState). d.machine.processor) passed.run)

@@ -1,12 +1,12 @@
 use Rattle.std.proofs.Common.{◌≡◌, ◌<◌, ◌-◌, false}
 use Rattle.debugger.specs.Run.{HasPassed}
-use Rattle.debugging.specs.Quiet.{is_aim}
+use Rattle.debugging.specs.Quiet.{is_any}
 use Rattle.debugging.proofs.run.step_up_to.Given as goal
 
 abbrev pub invariant-loop-made : goal.invariant-loop-made
 invariant-loop-made g l = record {
-  run : HasPassed (λ p. is_aim l.aim p ≡ false) l.made l.fn.debugger l.debugger;
-  here : 0 < l.made → is_aim l.aim l.debugger.machine.processor ≡ false;
+  run : HasPassed (λ p. is_any l.aims p ≡ false) l.made l.fn.debugger l.debugger;
+  here : 0 < l.made → is_any l.aims l.debugger.machine.processor ≡ false;
   due : l.made < l.limit;
 }
 

@@ -10,4 +10,4 @@ write_profile-requires g c =
     omega (arith, few, same, c.run_counted-run.ensures.size)
 
 pub returns-in-Ok-write_profile-clause-of : goal.returns-in-Ok-write_profile-clause-of
-returns-in-Ok-write_profile-clause-of g c = steps_of_image c.args.cartridge.now _ c.args.run c.run_counted-run.result.run c.run_counted-run.ensures.run c.requires
+returns-in-Ok-write_profile-clause-of g c = steps_of_image c.args.cartridge.now _ c.args.run c.run_counted-run.result.run c.run_counted-run.ensures.run c.requires.of

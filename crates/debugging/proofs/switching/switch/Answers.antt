@@ -3,7 +3,7 @@ use Rattle.std.specs.Prelude.{IfErr, IfOk, OnOk}
 use Rattle.std.specs.Io.KnownBytes.{Appends}
 use Rattle.exact_text.specs.Written.{AppendsProperPrefix}
 use Rattle.debugging.specs.declared.order.StateOrder.TheVariants.{Power, Keep, Back, Profile}
-use Rattle.debugging.specs.declared.order.Place.{Place}
+use Rattle.debugging.specs.declared.order.Condition.{Condition}
 use Rattle.debugging.specs.Answers.{profile_text, until_steps}
 use Rattle.debugging.specs.Run.{after_steps_of}
 use Rattle.debugging.specs.Switching.{IsRefusedAnswer}
@@ -30,19 +30,19 @@ pub returns-in-Profile-clause-done : goal.returns-in-Profile-clause-done
 returns-in-Profile-clause-done g c machines kept =
     let d : DebugState = record { run = c.args.run; kept = machines } in
     let limit = c.in-Profile.steps in
-    switched c.args.cartridge.now (Profile limit c.in-Profile.places) c.args.order c.in-Profile.is c.args.number d c.args.kept.now _ _ c.profile.result
-    (subst (λ (places : List Place). IfOk c.profile.result (λ now. now ≡ after_steps_of (until_steps limit places c.args.run) c.args.run)) c.as_slice.ensures.value c.profile.ensures.run)
+    switched c.args.cartridge.now (Profile limit c.in-Profile.conditions) c.args.order c.in-Profile.is c.args.number d c.args.kept.now _ _ c.profile.result
+    (subst (λ (conditions : List Condition). IfOk c.profile.result (λ now. now ≡ after_steps_of (until_steps limit conditions c.args.run) c.args.run)) c.as_slice.ensures.value c.profile.ensures.run)
     (on_ok_always c.profile.result kept)
-    (subst (λ (places : List Place). OnOk c.profile.result (Appends (g.W.Output.contents c.args.out.now) (g.W.Output.contents c.profile.new.out) (profile_text (until_steps limit places c.args.run) limit c.args.run)))
+    (subst (λ (conditions : List Condition). OnOk c.profile.result (Appends (g.W.Output.contents c.args.out.now) (g.W.Output.contents c.profile.new.out) (profile_text (until_steps limit conditions c.args.run) limit c.args.run)))
     c.as_slice.ensures.value c.profile.ensures.ok)
 
 pub returns-in-Profile-clause-refused : goal.returns-in-Profile-clause-refused
 returns-in-Profile-clause-refused g c machines kept =
     let d : DebugState = record { run = c.args.run; kept = machines } in
     let limit = c.in-Profile.steps in
-    not_switched c.args.cartridge.now (Profile limit c.in-Profile.places) c.args.order c.in-Profile.is c.args.number d c.args.kept.now _ _ c.profile.result
-    (subst (λ (places : List Place).
-    IfErr c.profile.result (λ why. IsRefusedAnswer why (profile_text (until_steps limit places c.args.run) limit c.args.run) (g.W.Output.contents c.args.out.now) (g.W.Output.contents c.profile.new.out)))
+    not_switched c.args.cartridge.now (Profile limit c.in-Profile.conditions) c.args.order c.in-Profile.is c.args.number d c.args.kept.now _ _ c.profile.result
+    (subst (λ (conditions : List Condition).
+    IfErr c.profile.result (λ why. IsRefusedAnswer why (profile_text (until_steps limit conditions c.args.run) limit c.args.run) (g.W.Output.contents c.args.out.now) (g.W.Output.contents c.profile.new.out)))
     c.as_slice.ensures.value c.profile.ensures.err)
     (memory_always c.profile.result refl)
 

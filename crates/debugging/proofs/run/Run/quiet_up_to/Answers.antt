@@ -1,4 +1,4 @@
-use Rattle.debugging.specs.Quiet.{is_aim}
+use Rattle.debugging.specs.Quiet.{is_any}
 use Rattle.debugging.specs.Run.{RunState}
 use Rattle.debugging.proofs.Runs.{steps_made, steps_stop}
 use Rattle.debugging.proofs.run.Run.quiet_up_to.Goals as goal
@@ -6,9 +6,9 @@ use Rattle.debugging.proofs.run.Run.quiet_up_to.Goals as goal
 pub returns-clause-made : goal.returns-clause-made
 returns-clause-made g c = λ there.
     let inside : RunState = record { debugger = c.self.inside.debugger; sent = c.self.inside.sent.items } in
-    steps_made c.args.limit c.args.self.now inside c.step_up_to.new.debugger c.self.view_is c.requires.quiet c.self.invariant.1 (is_aim c.args.aim.now) (c.step_up_to.ensures.made there)
+    steps_made c.args.limit c.args.self.now inside c.step_up_to.new.debugger c.self.view_is c.requires.quiet c.self.invariant.1 (is_any c.args.aims.now) (c.step_up_to.ensures.made there)
 
 pub returns-clause-there : goal.returns-clause-there
 returns-clause-there g c = λ there.
     let inside : RunState = record { debugger = c.self.inside.debugger; sent = c.self.inside.sent.items } in
-    steps_stop c.args.limit c.args.self.now inside c.step_up_to.new.debugger c.self.view_is c.requires.quiet c.self.invariant.1 (is_aim c.args.aim.now) (c.step_up_to.ensures.there there)
+    steps_stop c.args.limit c.args.self.now inside c.step_up_to.new.debugger c.self.view_is c.requires.quiet c.self.invariant.1 (is_any c.args.aims.now) (c.step_up_to.ensures.there there)
