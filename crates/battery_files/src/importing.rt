@@ -1,6 +1,6 @@
 //! A machine that begins with a battery file.
 
-ghost use Rattle.std.specs.Prelude.{◌≡◌, ◌≤◌, ◌<◌, ◌+◌, true, false, IfErr, IfOk, IfSome, IfNone, length};
+ghost use Rattle.std.specs.Prelude.{◌≡◌, ◌≢◌, ◌≤◌, ◌<◌, ◌+◌, true, false, IfErr, IfOk, IfSome, IfNone, length};
 ghost use Rattle.cartridge.specs.Accepted.{IsAccepted};
 ghost use Rattle.cartridge.specs.Header.{has_battery, ram_length_of};
 ghost use Rattle.bank_controllers.specs.Clock.{IsLegalClock};
@@ -9,9 +9,9 @@ ghost use Rattle.snapshot.specs.Table.{kind_of_image};
 ghost use Rattle.battery_files.specs.Battery.{has_clock};
 ghost use Rattle.battery_files.specs.Importing.{IsImportCause, clock_in, is_taken_length, kept_by, ram_in, start_with, start_with_ram};
 
-use crate::battery::{CLOCK_LENGTH, has_clock};
+use crate::battery::{CLOCK_LENGTH, is_clocked};
 use bank_controllers::ClockRegisters;
-use cartridge::{Cartridge, Controller};
+use cartridge::{Cartridge, Controller, controller_in, has_battery_in, ram_length_in};
 use machine::{Machine, Region};
 use refusals::Refusal;
 use snapshot::set_clocks;
@@ -23,35 +23,47 @@ const SHORT_CLOCK_LENGTH: usize = 44;
 /// The bytes of the registers of one clock.
 const REGISTERS_LENGTH: usize = 20;
 
-/// Whether a file for this cartridge may have so many bytes.
-fn is_taken_length(cartridge: &Cartridge, size: usize) -> bool
-    ensures { result ≡ is_taken_length cartridge.now size }
+/// Whether a file for the cartridge in an accepted image may have so many bytes.
+fn is_taken_length(image: &[u8], size: usize) -> bool
+    requires { IsAccepted image.now }
+    ensures { result ≡ is_taken_length image.now size }
 {
-    let ram = cartridge.ram_length();
+    let ram = ram_length_in(image);
     size == ram
-        || (has_clock(cartridge)
+        || (is_clocked(controller_in(image))
             && (size == ram + SHORT_CLOCK_LENGTH || size == ram + CLOCK_LENGTH))
 }
 
-/// Why a file of so many bytes is not taken for this cartridge.
+/// Why a file is not taken for the cartridge in an accepted image, if it is not. It takes no memory.
+///
+/// Refusals, in this order: `NoBattery`; `BatteryLength` for a file that has neither as many bytes as the RAM nor, with a clock, 44 or 48 more.
+pub fn refusal_of_file(image: &[u8], battery: &[u8]) -> Option<Refusal>
+    requires { IsAccepted image.now }
+    ensures none { IfNone result ((has_battery image.now ≡ true) ×
+        (is_taken_length image.now (length battery.now) ≡ true)) }
+    ensures some { IfSome result (IsImportCause image.now battery.now) }
+    ensures memory { IfSome result (λ why. why ≢ Refusal.Memory) }
+{
+    if !has_battery_in(image) {
+        return Some(Refusal::NoBattery);
+    }
+    if !is_taken_length(image, battery.len()) {
+        return Some(Refusal::BatteryLength {
+            found: battery.len() as u64,
+            needed: ram_length_in(image) as u64,
+        });
+    }
+    None
+}
+
+/// The same of a cartridge.
 fn refusal(cartridge: &Cartridge, battery: &[u8]) -> Option<Refusal>
     ensures none { IfNone result ((has_battery cartridge.now ≡ true) ×
         (is_taken_length cartridge.now (length battery.now) ≡ true)) }
     ensures some { IfSome result (IsImportCause cartridge.now battery.now) }
     ensures accepted { IsAccepted cartridge.now }
 {
-    // its contract says that the image is an accepted one
-    let _ = cartridge.rom();
-    if !cartridge.has_battery() {
-        return Some(Refusal::NoBattery);
-    }
-    if !is_taken_length(cartridge, battery.len()) {
-        return Some(Refusal::BatteryLength {
-            found: battery.len() as u64,
-            needed: cartridge.ram_length() as u64,
-        });
-    }
-    None
+    refusal_of_file(cartridge.rom(), battery)
 }
 
 /// What the RAM of a cartridge with this controller keeps of a byte.

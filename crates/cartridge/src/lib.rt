@@ -5,7 +5,7 @@ pub mod controller;
 pub mod error;
 mod length;
 
-ghost use Rattle.std.specs.Prelude.{◌≡◌, ◌*◌, ◌≤◌, ◌↔◌, length, IfOk, IsOk, Some};
+ghost use Rattle.std.specs.Prelude.{◌≡◌, ◌*◌, ◌≤◌, ◌↔◌, length, IfOk, IfNone, IsOk, Some};
 ghost use Rattle.std.specs.List.{Contains};
 ghost use Rattle.std.specs.Result.{result_err};
 ghost use Rattle.sha2.specs.Sha256.{sha256};
@@ -112,10 +112,7 @@ impl Cartridge {
     pub fn controller(&self) -> Controller
         ensures { controller_of self.now ≡ Some result }
     {
-        match Controller::of(self.image[0x147]) {
-            Some(controller) => controller,
-            None => unreachable!(),
-        }
+        controller_in(self.rom())
     }
 
     /// Whether the cartridge type names an MBC5 with a rumble motor (1C to 1E), whose bit 3 of the
@@ -131,10 +128,7 @@ impl Cartridge {
     pub fn has_battery(&self) -> bool
         ensures { result ≡ has_battery self.now }
     {
-        matches!(
-            self.image[0x147],
-            0x03 | 0x06 | 0x09 | 0x0F | 0x10 | 0x13 | 0x1B | 0x1E
-        )
+        has_battery_in(self.rom())
     }
 
     /// The number of banks of 16 KiB: a power of two, and at most what the controller reaches.
@@ -152,7 +146,7 @@ impl Cartridge {
         ensures header { result ≡ ram_length_of self.now }
         ensures listed { Contains ram_lengths result }
     {
-        self.controller().ram_length(self.image[0x149]).unwrap_or(0)
+        ram_length_in(self.rom())
     }
 
     /// The SHA-256 of the whole image.
@@ -163,9 +157,10 @@ impl Cartridge {
     }
 }
 
-/// The first rule that the image breaks.
-fn refusal(image: &[u8]) -> Option<CartError>
-    ensures { result ≡ refusal_of image.now }
+/// The first rule that an image breaks, as `Cartridge::read` names it. It takes no memory.
+pub fn refusal(image: &[u8]) -> Option<CartError>
+    ensures rule { result ≡ refusal_of image.now }
+    ensures accepted { IfNone result (IsAccepted image.now) }
 {
     let size = image.len();
     if !length::is_rom_length(size) {
@@ -184,6 +179,37 @@ fn refusal(image: &[u8]) -> Option<CartError>
         return Some(CartError::TooManyBanks(banks as u64));
     }
     None
+}
+
+/// The chip that the cartridge type of an accepted image names.
+pub fn controller_in(image: &[u8]) -> Controller
+    requires { IsAccepted image.now }
+    ensures { controller_of image.now ≡ Some result }
+{
+    match Controller::of(image[0x147]) {
+        Some(controller) => controller,
+        None => unreachable!(),
+    }
+}
+
+/// Whether the cartridge type of an accepted image names a battery.
+pub fn has_battery_in(image: &[u8]) -> bool
+    requires { IsAccepted image.now }
+    ensures { result ≡ has_battery image.now }
+{
+    matches!(
+        image[0x147],
+        0x03 | 0x06 | 0x09 | 0x0F | 0x10 | 0x13 | 0x1B | 0x1E
+    )
+}
+
+/// The bytes of cartridge RAM that the header of an accepted image asks for.
+pub fn ram_length_in(image: &[u8]) -> usize
+    requires { IsAccepted image.now }
+    ensures header { result ≡ ram_length_of image.now }
+    ensures listed { Contains ram_lengths result }
+{
+    controller_in(image).ram_length(image[0x149]).unwrap_or(0)
 }
 
 ghost use Rattle.std.specs.Prelude.{◌==◌, position};

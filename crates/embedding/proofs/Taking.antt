@@ -14,7 +14,7 @@ module _ (rom battery : List ℕ) (sectors : ℕ) (accepted : IsAccepted rom) wh
   file_refused (Session why) is = absurd is
   file_refused (Recording why) is = absurd is
   file_refused (Device why) is = absurd is
-  file_refused Memory is = tt
+  file_refused Memory is = (accepted, is.0, is.1)
   file_refused Output is = absurd is
   file_refused File is = absurd is
   file_refused Address is = absurd is

@@ -1,5 +1,5 @@
 -- The game that is taken up from an image of a device, and the one that begins with a battery file.
-use Rattle.std.specs.Prelude.{◌≡◌, ◌≢◌, ◌<◌, ◌+◌, ◌*◌, ◌%◌, ◌⊎◌, ℕ, List, [], length, slice_range, Some, Result, Ok, Err, true, false, ⊤}
+use Rattle.std.specs.Prelude.{◌≡◌, ◌≢◌, ◌<◌, ◌+◌, ◌*◌, ◌%◌, ◌⊎◌, ℕ, List, [], length, slice_range, Some, Result, Ok, Err, true, false}
 use Rattle.cartridge.specs.Accepted.{IsAccepted, refusal_of}
 use Rattle.cartridge.specs.Header.{has_battery, ram_length_of}
 use Rattle.machine.specs.Machine.{MachineState}
@@ -34,16 +34,16 @@ pub record IsFrom (rom image : List ℕ) (count : ℕ) (machine : MachineState) 
 
 -- ---- refusals
 
--- why an image gives no cartridge: the first rule that it breaks, or want of memory
+-- why an image gives no cartridge: the first rule that it breaks; and want of memory only where it breaks none
 abbrev pub IsCartCause : (rom : List ℕ) → Refusal → Type 0
-IsCartCause rom Memory = ⊤
+IsCartCause rom Memory = IsAccepted rom
 IsCartCause rom (Cart fault) = refusal_of rom ≡ Some fault
 IsCartCause rom why = ⊥
 
--- Why no game begins at power-on on a device of so many sectors: the first rule of a cartridge that the image breaks; why no new game begins.
--- Nothing is said of running out of memory.
+-- Why no game begins at power-on on a device of so many sectors: the first rule of a cartridge that the image breaks; and where it breaks none,
+-- want of memory, or why no new game begins.
 abbrev pub IsBeginCause : (rom : List ℕ) → (sectors : ℕ) → Refusal → Type 0
-IsBeginCause rom sectors Memory = ⊤
+IsBeginCause rom sectors Memory = IsAccepted rom
 IsBeginCause rom sectors (Cart fault) = refusal_of rom ≡ Some fault
 IsBeginCause rom sectors (Session why) = IsAccepted rom × IsNewGameCause (snapshot_length (ram_length_of rom)) sectors why
 IsBeginCause rom sectors why = ⊥
@@ -54,10 +54,10 @@ pub record IsRefusedFrom (rom image : List ℕ) (why : SessionError) : Type 0 wh
   pub are : AreSectorsOf image sectors
   pub cause : IsResumeCause rom (generation_in sectors) (content sectors) why
 
--- Why no game is taken up from an image: it is not whole sectors; the first rule of a cartridge that the ROM breaks; why its sectors are not
--- taken up. Nothing is said of running out of memory.
+-- Why no game is taken up from an image: it is not whole sectors; the first rule of a cartridge that the ROM breaks; and where neither holds,
+-- want of memory, or why its sectors are not taken up.
 abbrev pub IsTakeUpCause : (rom image : List ℕ) → Refusal → Type 0
-IsTakeUpCause rom image Memory = ⊤
+IsTakeUpCause rom image Memory = (length image % 512 ≡ 0) × IsAccepted rom
 IsTakeUpCause rom image (Device (SizeNotSectors bytes)) = (bytes ≡ length image) × (length image % 512 ≢ 0)
 IsTakeUpCause rom image (Cart fault) = (length image % 512 ≡ 0) × (refusal_of rom ≡ Some fault)
 IsTakeUpCause rom image (Session why) = IsAccepted rom × IsRefusedFrom rom image why
@@ -68,9 +68,9 @@ abbrev pub IsTaken : (rom battery : List ℕ) → Type 0
 IsTaken rom battery = IsAccepted rom × (has_battery rom ≡ true) × (is_taken_length rom (length battery) ≡ true)
 
 -- Why no game begins with a battery file on a device of so many sectors: the first rule of a cartridge that the image breaks; a cartridge
--- without battery; a file of another length; why no new game begins. Nothing is said of running out of memory.
+-- without battery; a file of another length; and where none of these holds, want of memory, or why no new game begins.
 abbrev pub IsImportCause : (rom battery : List ℕ) → (sectors : ℕ) → Refusal → Type 0
-IsImportCause rom battery sectors Memory = ⊤
+IsImportCause rom battery sectors Memory = IsTaken rom battery
 IsImportCause rom battery sectors (Cart fault) = refusal_of rom ≡ Some fault
 IsImportCause rom battery sectors NoBattery = IsAccepted rom × (has_battery rom ≡ false)
 IsImportCause rom battery sectors (BatteryLength found needed) =

@@ -1,7 +1,7 @@
 -- What a console makes of its machine, and the bytes that it gives.
-use Rattle.std.specs.Prelude.{◌≡◌, ℕ, ◌+◌, ◌-◌, ◌/◌, ◌%◌, List, [], map, slice_index, slice_index_or, Some, ⊤}
+use Rattle.std.specs.Prelude.{◌≡◌, ℕ, ◌+◌, ◌-◌, ◌/◌, ◌%◌, List, [], map, slice_index, slice_index_or, Some}
 use Rattle.std.specs.List.{range_with_len}
-use Rattle.cartridge.specs.Accepted.{refusal_of}
+use Rattle.cartridge.specs.Accepted.{IsAccepted, refusal_of}
 use Rattle.memory_map.specs.Bus.{peeked}
 use Rattle.machine.specs.Machine.{MachineState}
 use Rattle.state_header.specs.States.{IsOfAnotherRom}
@@ -23,9 +23,9 @@ bytes_from m address count = map (λ k. peeked m.processor.memory ((address + k)
 
 -- ---- refusals
 
--- why an image gives no console: the first rule of a cartridge that it breaks, or want of memory
+-- why an image gives no console: the first rule of a cartridge that it breaks; and want of memory only where it breaks none
 abbrev pub IsNewCause : (rom : List ℕ) → Refusal → Type 0
-IsNewCause rom Memory = ⊤
+IsNewCause rom Memory = IsAccepted rom
 IsNewCause rom (Cart fault) = refusal_of rom ≡ Some fault
 IsNewCause rom why = ⊥
 

@@ -13,7 +13,7 @@ ghost use Rattle.refusals.specs.declared.refusal.Refusal.TheVariants.{Memory};
 use crate::looking::write_memory;
 use crate::shades::write_shades;
 use crate::states::{named, write_state};
-use cartridge::Cartridge;
+use cartridge::{Cartridge, refusal};
 use machine::{Input, Machine};
 use refusals::Refusal;
 use session::machine_at_power_on;
@@ -33,11 +33,16 @@ pub struct Console {
     ghost own: { IsOfItsRom machine } by { own_prop machine },
 }
 
-/// A copy of an image.
-fn copied(alloc: Global, rom: &[u8]) -> Result<Vec<u8>, AllocError>
-    ensures { IfOk result (λ copy. copy.items ≡ rom.now) }
+/// The cartridge in a copy of an accepted image. `Err` only when out of memory.
+pub(crate) fn copied(alloc: Global, rom: &[u8]) -> Result<Cartridge, AllocError>
+    requires { IsAccepted rom.now }
+    ensures image { IfOk result (λ cartridge. cartridge ≡ rom.now) }
 {
-    rom.to_vec(alloc)
+    let image = rom.to_vec(alloc)?;
+    match Cartridge::read(image) {
+        Ok(cartridge) => Ok(cartridge),
+        Err(_) => unreachable!(),
+    }
 }
 
 /// Plays `count` frames with these buttons.
@@ -52,19 +57,18 @@ fn play_frames(machine: &mut Machine, buttons: u8, count: u32)
 impl Console {
     /// The machine of this image at power-on. The image is copied.
     ///
-    /// Refusals, in this order: `Memory` for the copy; `Cart` with the first rule that the image breaks; `Memory` for the machine.
+    /// Refusals, in this order: `Cart` with the first rule that the image breaks; `Memory` for the copy and the machine.
     pub fn new(alloc: Global, rom: &[u8]) -> Result<Console, Refusal>
         ensures rom { IfOk result (λ c. c.cartridge ≡ rom.now) }
         ensures machine { IfOk result (λ c. c.machine ≡ start rom.now) }
         ensures accepted { IfOk result (λ c. IsAccepted rom.now) }
         ensures cause { IfErr result (IsNewCause rom.now) }
     {
-        let Ok(image) = copied(alloc, rom) else {
+        if let Some(why) = refusal(rom) {
+            return Err(Refusal::Cart(why));
+        }
+        let Ok(cartridge) = copied(alloc, rom) else {
             return Err(Refusal::Memory);
-        };
-        let cartridge = match Cartridge::read(image) {
-            Ok(cartridge) => cartridge,
-            Err(why) => return Err(Refusal::Cart(why)),
         };
         let Ok(machine) = machine_at_power_on(alloc, &cartridge) else {
             return Err(Refusal::Memory);

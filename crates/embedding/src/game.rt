@@ -22,12 +22,13 @@ ghost use Rattle.embedding.specs.Calls.{image_calls};
 ghost use Rattle.embedding.specs.HostDevices.{HasHandedOut, calls_of, count_of, handed_of, host_disk, waiting_of};
 ghost use Rattle.embedding.specs.States.{IsStateAnswer};
 
+use crate::console::copied;
 use crate::host_device::{Call, HostDevice};
 use crate::looking::write_memory;
 use crate::shades::write_shades;
 use crate::states::{named, told_of_other, write_state};
-use battery_files::{battery_length, battery_of, machine_with_battery};
-use cartridge::Cartridge;
+use battery_files::{battery_length, battery_of, machine_with_battery, refusal_of_file};
+use cartridge::{Cartridge, refusal};
 use machine::{Input, Region};
 use refusals::Refusal;
 use sector_device::{DeviceFault, SectorDevice};
@@ -43,31 +44,18 @@ pub struct Game {
     ghost own: { rom_of session ≡ cartridge },
 }
 
-/// The cartridge in a copy of an image.
-fn read_cartridge(alloc: Global, rom: &[u8]) -> Result<Cartridge, Refusal>
-    ensures image { IfOk result (λ c. c ≡ rom.now) }
-    ensures accepted { IfOk result (λ c. IsAccepted rom.now) }
-    ensures cause { IfErr result (IsCartCause rom.now) }
-{
-    let Ok(image) = rom.to_vec(alloc) else {
-        return Err(Refusal::Memory);
-    };
-    match Cartridge::read(image) {
-        Ok(cartridge) => Ok(cartridge),
-        Err(why) => Err(Refusal::Cart(why)),
-    }
-}
-
 /// How many sectors a game of this image needs.
 ///
-/// Refusals: `Memory`, `Cart`.
+/// Refusals, in this order: `Cart`; `Memory`.
 pub fn sectors_of(alloc: Global, rom: &[u8]) -> Result<u64, Refusal>
     ensures need { IfOk result (λ sectors. sectors ≡ need (snapshot_length (ram_length_of rom.now))) }
     ensures cause { IfErr result (IsCartCause rom.now) }
 {
-    let cartridge = match read_cartridge(alloc, rom) {
-        Ok(cartridge) => cartridge,
-        Err(why) => return Err(why),
+    if let Some(why) = refusal(rom) {
+        return Err(Refusal::Cart(why));
+    }
+    let Ok(cartridge) = copied(alloc, rom) else {
+        return Err(Refusal::Memory);
     };
     Ok(sectors_needed(&cartridge))
 }
@@ -94,20 +82,23 @@ fn fill_from(device: &mut HostDevice, image: &[u8])
 impl Game {
     /// Begins a game at power-on on a device of so many zero sectors. The calls that begin it are the first that the host has to make.
     ///
-    /// Refusals: `Memory`; `Cart`; `Session` with `TooSmall`.
+    /// Refusals, in this order: `Cart`; `Memory`; `Session` with `Memory` or `TooSmall`.
     pub fn begin(alloc: Global, rom: &[u8], sectors: usize) -> Result<Game, Refusal>
         ensures begun { IfOk result (λ g.
             (acknowledged_of g.session ≡ 0) × (pending_of g.session ≡ []) × (is_broken g.session ≡ false)) }
         ensures machine { IfOk result (λ g. (machine_of g.session ≡ start rom.now) × (rom_of g.session ≡ rom.now)) }
         ensures rests { IfOk result (λ g. IsAtRest rom.now (host_disk (device_of g.session)) 0 [] (start rom.now)) }
         ensures saved { IfOk result (λ g. saved_of g.session ≡ record { count = 0; machine = start rom.now }) }
+        ensures accepted { IfOk result (λ g. IsAccepted rom.now) }
         ensures cause { IfErr result (IsBeginCause rom.now sectors) }
         ensures sectors { IfOk result (λ g. count_of (device_of g.session) ≡ sectors) }
         ensures first { IfOk result (λ g. handed_of (device_of g.session) ≡ []) }
     {
-        let cartridge = match read_cartridge(alloc, rom) {
-            Ok(cartridge) => cartridge,
-            Err(why) => return Err(why),
+        if let Some(why) = refusal(rom) {
+            return Err(Refusal::Cart(why));
+        }
+        let Ok(cartridge) = copied(alloc, rom) else {
+            return Err(Refusal::Memory);
         };
         let Ok(device) = HostDevice::new(alloc, sectors) else {
             return Err(Refusal::Memory);
@@ -122,7 +113,7 @@ impl Game {
     /// the host has to make.
     ///
     /// Refusals, in this order: `Cart`; `NoBattery`; `BatteryLength` for a file that has neither as many bytes as the RAM nor, with a clock, 44 or
-    /// 48 more; `Session` with `TooSmall`. `Memory` comes before any of them, or between them.
+    /// 48 more; `Memory`; `Session` with `Memory` or `TooSmall`.
     pub fn import(
         alloc: Global,
         rom: &[u8],
@@ -142,9 +133,14 @@ impl Game {
         ensures sectors { IfOk result (λ g. count_of (device_of g.session) ≡ sectors) }
         ensures first { IfOk result (λ g. handed_of (device_of g.session) ≡ []) }
     {
-        let cartridge = match read_cartridge(alloc, rom) {
-            Ok(cartridge) => cartridge,
-            Err(why) => return Err(why),
+        if let Some(why) = refusal(rom) {
+            return Err(Refusal::Cart(why));
+        }
+        if let Some(why) = refusal_of_file(rom, battery) {
+            return Err(why);
+        }
+        let Ok(cartridge) = copied(alloc, rom) else {
+            return Err(Refusal::Memory);
         };
         let machine = match machine_with_battery(alloc, &cartridge, battery) {
             Ok(machine) => machine,
@@ -352,7 +348,8 @@ impl Game {
     /// Takes up the game that an image of a device stands for. The calls that begin its new generation are the first that the host has to make,
     /// on a device that holds the image.
     ///
-    /// Refusals: `Device` with `SizeNotSectors` for an image that is not whole sectors; `Memory`; `Cart`; `Session` with those of `resume`.
+    /// Refusals, in this order: `Device` with `SizeNotSectors` for an image that is not whole sectors; `Cart`; `Memory`; `Session` with those of
+    /// `resume`.
     pub fn resume(alloc: Global, rom: &[u8], image: &[u8]) -> Result<Game, Refusal>
         ensures begun { IfOk result (λ g.
             (pending_of g.session ≡ []) × (is_broken g.session ≡ false) × (rom_of g.session ≡ rom.now)) }
@@ -365,14 +362,17 @@ impl Game {
         ensures handed { IfOk result (λ g. handed_of (device_of g.session) ≡
             image_calls image.now (count_of (device_of g.session))) }
         ensures from { IfOk result (λ g. IsFrom rom.now image.now (acknowledged_of g.session) (machine_of g.session)) }
+        ensures accepted { IfOk result (λ g. IsAccepted rom.now) }
         ensures cause { IfErr result (IsTakeUpCause rom.now image.now) }
     {
         if image.len() % 512 != 0 {
             return Err(Refusal::Device(DeviceFault::SizeNotSectors(image.len() as u64)));
         }
-        let cartridge = match read_cartridge(alloc, rom) {
-            Ok(cartridge) => cartridge,
-            Err(why) => return Err(why),
+        if let Some(why) = refusal(rom) {
+            return Err(Refusal::Cart(why));
+        }
+        let Ok(cartridge) = copied(alloc, rom) else {
+            return Err(Refusal::Memory);
         };
         let Ok(mut device) = HostDevice::new(alloc, image.len() / 512) else {
             return Err(Refusal::Memory);

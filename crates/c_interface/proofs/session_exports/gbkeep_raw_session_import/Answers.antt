@@ -3,4 +3,4 @@ use Rattle.refusals.specs.declared.refusal.Refusal.TheVariants.{Memory}
 use Rattle.c_interface.proofs.session_exports.gbkeep_raw_session_import.Goals as goal
 
 pub returns-in_default-clause-code : goal.returns-in_default-clause-code
-returns-in_default-clause-code c = inr (record { why = Memory; cause = tt; is = refl })
+returns-in_default-clause-code c = inr (record { why = Memory; cause = c.in-Ok.ensures.taken; is = refl })

@@ -9,10 +9,14 @@ use Rattle.embedding.proofs.Counting.{handed_same, same_count}
 use Rattle.embedding.proofs.Taking.{file_refused}
 use Rattle.embedding.proofs.game.Game.import.Goals as goal
 
-pub returns-in-Err-machine_with_battery-clause-cause : goal.returns-in-Err-machine_with_battery-clause-cause
-returns-in-Err-machine_with_battery-clause-cause c =
-    file_refused c.args.rom.now c.args.battery.now c.args.sectors c.in-Ok.ensures.accepted _
-    (subst (λ (rom : List ℕ). IsFileCause rom c.args.battery.now c.in-Err-machine_with_battery.why) c.in-Ok.ensures.image c.in-Err-machine_with_battery.ensures.cause)
+pub returns-in-Err-clause-cause : goal.returns-in-Err-clause-cause
+returns-in-Err-clause-cause c =
+    file_refused c.args.rom.now c.args.battery.now c.args.sectors c.in_default.ensures.accepted _
+    (subst (λ (rom : List ℕ). IsFileCause rom c.args.battery.now c.in-Err.why) c.in-Ok.ensures.image c.in-Err.ensures.cause)
+
+pub returns-in-Some-refusal_of_file-clause-cause : goal.returns-in-Some-refusal_of_file-clause-cause
+returns-in-Some-refusal_of_file-clause-cause c =
+    file_refused c.args.rom.now c.args.battery.now c.args.sectors c.in_default.ensures.accepted c.in-Some-refusal_of_file.why c.in-Some-refusal_of_file.ensures.some
 
 pub returns-in-Ok-new_game_from-clause-machine : goal.returns-in-Ok-new_game_from-clause-machine
 returns-in-Ok-new_game_from-clause-machine c =
@@ -33,7 +37,7 @@ pub returns-in-Ok-new_game_from-clause-taken : goal.returns-in-Ok-new_game_from-
 returns-in-Ok-new_game_from-clause-taken c =
     let taken = subst (λ (rom : List ℕ). (has_battery rom ≡ true) × (is_taken_length rom (length c.args.battery.now) ≡ true)) c.in-Ok.ensures.image
     c.in-Ok-machine_with_battery.ensures.taken in
-    (c.in-Ok.ensures.accepted, taken.0, taken.1)
+    (c.in_default.ensures.accepted, taken.0, taken.1)
 
 pub returns-in-Ok-new_game_from-clause-first : goal.returns-in-Ok-new_game_from-clause-first
 returns-in-Ok-new_game_from-clause-first c =

@@ -41,15 +41,15 @@ returns-in-Ok-resume-clause-from c =
           (c.in-Ok-resume.ensures.stands tt);
     }
 
-pub returns-in-Err-resume-clause-cause : goal.returns-in-Err-resume-clause-cause
-returns-in-Err-resume-clause-cause c =
+pub returns-in-Err-clause-cause : goal.returns-in-Err-clause-cause
+returns-in-Err-clause-cause c =
     let sectors = (host_disk c.fill_from.new.device).sectors in (
-      c.in-Ok.ensures.accepted,
+      c.in_default.ensures.accepted,
       record {
         sectors = sectors;
         are = sectors_are c.args.image.now c.fill_from.new.device (count_of c.in-Ok-new.device) c.fill_from.ensures.count
             (omega (arith, c.in-Ok-new.ensures.count, c.if-image-ne0.false)) c.fill_from.ensures.sectors;
-        cause = subst (λ (rom : List ℕ). IsResumeCause rom (generation_in sectors) (content sectors) c.in-Err-resume.refused.why) c.in-Ok.ensures.image (c.in-Err-resume.ensures.cause tt);
+        cause = subst (λ (rom : List ℕ). IsResumeCause rom (generation_in sectors) (content sectors) c.in-Err.refused.why) c.in-Ok.ensures.image (c.in-Err.ensures.cause tt);
       },
     )
 
