@@ -6,6 +6,7 @@ pub mod BatteryTexts
 pub mod DebugTexts
 pub mod Endings
 pub mod BegunTexts
+pub mod Belonging
 pub mod FileTexts
 pub mod Together
 pub mod LoopSteps

@@ -6,7 +6,6 @@ use Rattle.sector_device.specs.FileDevice.{file_disk}
 use Rattle.sector_device.specs.declared.file.FileDevice.{FileDevice}
 use Rattle.replaying.specs.Verifying.{IsOfVerifying, IsVerifyCause}
 use Rattle.replaying.specs.declared.error.VerifyError.{VerifyError}
-use Rattle.replaying.specs.declared.verifying.Limits.{Limits}
 use Rattle.replaying.specs.declared.error.VerifyError.TheVariants.{Save, Recording as Taped, Behind as IsBehind, Ahead as IsAhead, Memory as Lacked, Differ as Differing}
 use Rattle.commands.specs.declared.error.CommandError.TheVariants.{Verify}
 use Rattle.streaming.specs.declared.obeying.End.{End}
@@ -18,7 +17,7 @@ use Rattle.recording_marks.specs.declared.text.Mark.{Mark}
 use Rattle.refusals.specs.declared.refusal.Refusal.{Refusal}
 use Rattle.refusals.specs.declared.refusal.Refusal.TheVariants.{Cart as ACart, Memory as AMemory, File as AFile, Output as AnOutput, Address as AnAddress, Word as AWord, Device as ADevice, Script as AScript, Session as ASession, Line as ALine, Input as AnInput, Snapshot as ASnapshot, NoState as ANoState, OtherState as AnOtherState, Recording as ARecording, Behind as ABehind, Ahead as AnAhead, Differ as ADiffer, OtherRecording as AnOtherRecording, RecordedGame as ARecordedGame, TestFailed as ATestFailed, TestUndecided as ATestUndecided, NoBattery as NoBatteryThere, BatteryLength as ABatteryLength, WrongLength as AWrongLength, NoTime as ANoTime}
 use Rattle.gbkeep.specs.Program.{IsNotMarked, IsNotOf, IsRecordRefused, refusal_of_command}
-use Rattle.gbkeep.specs.Request.{IsNotBelonging, IsRecordedTo, record_limits}
+use Rattle.gbkeep.specs.Request.{Belongs, IsNotBelonging, IsRecordedTo, limits_up_to, record_limits}
 
 -- what a recorded play that was refused is for the program
 abbrev pub refusal_of_record : RecordError → Refusal
@@ -29,21 +28,21 @@ refusal_of_record (Line number) = ALine number
 refusal_of_record Input = AnInput
 
 module _ (rom : List ℕ) (accepted : IsAccepted rom) (save now_save recording now_recording : FileDevice) (before_in since_in before since : Option (List ℕ)) where
-  pub recorded_to : (end : End)
+  pub recorded_to : (end : End) → Belongs record_limits rom (file_disk save) (file_disk recording)
       → HasRecorded rom (file_disk save) (file_disk now_save) (file_disk recording) (file_disk now_recording) end before_in since_in before since
       → IsRecordedTo end (record { before = before_in; since = since_in }) (record { before = before; since = since })
-  recorded_to end it = (rom, accepted, (save, now_save, recording, now_recording, it))
+  recorded_to end belongs it = (rom, accepted, (save, now_save, recording, now_recording, (belongs, it)))
 
-  pub record_refused : (why : RecordError)
+  pub record_refused : (why : RecordError) → Belongs record_limits rom (file_disk save) (file_disk recording)
       → IsRecordCause why rom (file_disk save) (file_disk now_save) (file_disk recording) (file_disk now_recording) before_in since_in before since
       → IsRecordRefused (refusal_of_record why) (record { before = before_in; since = since_in }) (record { before = before; since = since })
-  record_refused (Session why) cause = inl (rom, accepted, (save, now_save, recording, now_recording, cause))
-  record_refused (Recording why) cause = inl (rom, accepted, (save, now_save, recording, now_recording, cause))
-  record_refused (Behind count) cause = inl (rom, accepted, (save, now_save, recording, now_recording, cause))
-  record_refused (Line number) (inl it) = absurd it.0.kind
-  record_refused (Line number) (inr it) = recorded_to _ it
-  record_refused Input (inl it) = absurd it.0.kind
-  record_refused Input (inr it) = recorded_to _ it
+  record_refused (Session why) belongs cause = inl (rom, accepted, (save, now_save, recording, now_recording, (belongs, cause)))
+  record_refused (Recording why) belongs cause = inl (rom, accepted, (save, now_save, recording, now_recording, (belongs, cause)))
+  record_refused (Behind count) belongs cause = inl (rom, accepted, (save, now_save, recording, now_recording, (belongs, cause)))
+  record_refused (Line number) belongs (inl it) = absurd it.0.kind
+  record_refused (Line number) belongs (inr it) = recorded_to _ belongs it
+  record_refused Input belongs (inl it) = absurd it.0.kind
+  record_refused Input belongs (inr it) = recorded_to _ belongs it
 
 -- a game that was not taken up, since its mark knows another recording
 pub not_marked : (said : Option Mark) (tape : FileDevice) (input output : Option (List ℕ)) (fault : Refusal) → IsNotMarked said (file_disk tape) fault
@@ -75,13 +74,9 @@ not_marked said tape input output ATestUndecided cause = absurd cause
 not_marked said tape input output NoBatteryThere cause = absurd cause
 not_marked said tape input output (ABatteryLength found needed) cause = absurd cause
 
--- what is looked at, but for how long a game is replayed
-abbrev pub limits_of : ℕ → Limits
-limits_of replayed = record { beyond = 3200; replayed = replayed }
-
 -- why a recording is not taken for that of a game
 pub not_of : (rom : List ℕ) (game tape : DiskState) (replayed : ℕ) (why : VerifyError)
-    → (game.honest → tape.honest → IsVerifyCause (Some (limits_of replayed)) rom game tape why) → IsOfVerifying (Some (limits_of replayed)) why
+    → (game.honest → tape.honest → IsVerifyCause (Some (limits_up_to replayed)) rom game tape why) → IsOfVerifying (Some (limits_up_to replayed)) why
     → IsNotOf rom game tape (refusal_of_command (Verify why))
 not_of rom game tape replayed (Save why) cause kind = (cause, kind)
 not_of rom game tape replayed (Taped why) cause kind = cause

@@ -20,7 +20,7 @@ use Rattle.recording.specs.declared.fault.RecordingFault.{RecordingFault}
 use Rattle.recording.specs.declared.fault.RecordingFault.TheVariants.{Memory, Device, TooSmall}
 use Rattle.recorded_play.specs.Whole.{HasRecorded, IsRecordCause}
 use Rattle.recorded_play.specs.declared.error.RecordError.{RecordError}
-use Rattle.replaying.specs.Verifying.{IsVerifyCause}
+use Rattle.replaying.specs.Verifying.{IsVerifiedWithin, IsVerifyCause}
 use Rattle.replaying.specs.declared.verifying.Limits.{Limits}
 use Rattle.replaying.specs.declared.error.VerifyError.{VerifyError}
 use Rattle.replaying.specs.declared.error.VerifyError.TheVariants.{Save as NoSave, Recording as NoRecording}
@@ -330,19 +330,32 @@ IsStreamStopped why input output = (rom : List ℕ)
 
 -- ---- a recorded play
 
--- all that the lines up to this end ask for was done and answered
-abbrev pub IsRecordedTo : End → (input output : Text) → Type 0
-IsRecordedTo end input output = (rom : List ℕ) × IsAccepted rom
-    × OfAPairSince (λ was now tape new_tape. HasRecorded rom was now tape new_tape end input.before input.since output.before output.since)
-
--- why the game was not taken up, with nothing read and nothing written; or why a line was refused, with what was answered up to there
-abbrev pub IsRecordStopped : RecordError → (input output : Text) → Type 0
-IsRecordStopped why input output = (rom : List ℕ) × IsAccepted rom
-    × OfAPairSince (λ was now tape new_tape. IsRecordCause why rom was now tape new_tape input.before input.since output.before output.since)
+-- a recording has at most 3,200 inputs beyond its game, and a game of so many inputs or fewer is replayed
+abbrev pub limits_up_to : (replayed : ℕ) → Limits
+limits_up_to replayed = record { beyond = 3200; replayed = replayed }
 
 -- how far `record` compares before it takes a game up
 abbrev pub record_limits : Limits
-record_limits = record { beyond = 3200; replayed = 20000 }
+record_limits = limits_up_to 20000
+
+-- As far as these limits go, the recording is that of the game: it has the inputs that the game has, and not too many beyond them; and where they
+-- are no more than are replayed, they lead from power-on to the game's machine.
+pub record Belongs (limits : Limits) (rom : List ℕ) (game tape : DiskState) : Type 0 where
+  pub count : ℕ
+  pub verified : game.honest → tape.honest → IsVerifiedWithin (Some limits) rom game.sectors tape.sectors count
+
+-- the recording is that of the game, and all that the lines up to this end ask for was done and answered
+abbrev pub IsRecordedTo : End → (input output : Text) → Type 0
+IsRecordedTo end input output = (rom : List ℕ) × IsAccepted rom
+    × OfAPairSince (λ was now tape new_tape. Belongs record_limits rom was tape
+    × HasRecorded rom was now tape new_tape end input.before input.since output.before output.since)
+
+-- The recording is that of the game; and why it was not taken up, with nothing read and nothing written, or why a line was refused, with what was
+-- answered up to there.
+abbrev pub IsRecordStopped : RecordError → (input output : Text) → Type 0
+IsRecordStopped why input output = (rom : List ℕ) × IsAccepted rom
+    × OfAPairSince (λ was now tape new_tape. Belongs record_limits rom was tape
+    × IsRecordCause why rom was now tape new_tape input.before input.since output.before output.since)
 
 -- why the recording can't be that of the game, as far as they are compared before the game is taken up: nothing was read, and nothing went out
 abbrev pub IsNotBelonging : VerifyError → (input output : Text) → Type 0

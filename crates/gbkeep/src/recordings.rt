@@ -3,6 +3,7 @@
 ghost use Rattle.std.specs.Prelude.{◌≡◌, true, IfErr, IfOk};
 ghost use Rattle.sector_device.specs.FileDevice.{file_disk};
 ghost use Rattle.gbkeep.specs.Program.{IsOutputFault, IsServed, IsRecordServed, IsPairFault, IsNotOf, IsNotMarked, IsRemembered, known_by};
+ghost use Rattle.gbkeep.specs.Request.{Belongs, limits_up_to, record_limits};
 ghost use Rattle.input_entries.specs.Inputs.{inputs};
 ghost use Rattle.recording.specs.Recorded.{entries};
 
@@ -138,7 +139,9 @@ fn belonging(
     cartridge: &Cartridge,
     replayed: u64,
 ) -> Result<Compared, Refusal>
-    ensures { IfErr result (IsNotOf cartridge.now (file_disk pair.save) (file_disk pair.recording)) }
+    ensures belongs { IfOk result (λ game.
+        Belongs (limits_up_to replayed) cartridge.now (file_disk game.save) (file_disk game.recording)) }
+    ensures cause { IfErr result (IsNotOf cartridge.now (file_disk pair.save) (file_disk pair.recording)) }
 {
     let limits = Limits {
         beyond: MOST_BEYOND,
@@ -162,7 +165,10 @@ fn certain(
     cartridge: &Cartridge,
     found: &FoundMark,
 ) -> Result<Compared, Refusal>
-    ensures { IfErr result (IsNotOf cartridge.now (file_disk game.save) (file_disk game.recording)) }
+    ensures belongs { IfOk result (λ compared.
+        Belongs record_limits cartridge.now (file_disk game.save) (file_disk game.recording) →
+        Belongs record_limits cartridge.now (file_disk compared.save) (file_disk compared.recording)) }
+    ensures cause { IfErr result (IsNotOf cartridge.now (file_disk game.save) (file_disk game.recording)) }
 {
     if !is_in_doubt(found, game.count) {
         return Ok(game);
@@ -211,6 +217,9 @@ fn marked(
 ) -> Result<KnownGame, Refusal>
     ensures known { IfOk result (λ marked. (file_disk game.recording).honest → IsRemembered said game.count marked.known
         (inputs (entries (file_disk game.recording).sectors))) }
+    ensures belongs { IfOk result (λ marked.
+        Belongs record_limits cartridge.now (file_disk game.save) (file_disk game.recording) →
+        Belongs record_limits cartridge.now (file_disk marked.save) (file_disk marked.recording)) }
     ensures cause { IfErr result (IsNotMarked said (file_disk game.recording)) }
 {
     let before = known_before(said);

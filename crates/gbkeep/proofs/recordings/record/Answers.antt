@@ -14,17 +14,17 @@ accepted_as rom image is accepted = subst (λ (r : List ℕ). IsAccepted r) (sym
 pub returns-in-Ok-record_play-clause-served : goal.returns-in-Ok-record_play-clause-served
 returns-in-Ok-record_play-clause-served g c =
     recorded_to c.in_ok-cartridge.cartridge (accepted_as _ _ c.in_ok-cartridge.ensures.image (c.in_ok-cartridge.ensures.accepted.0 refl)) c.in-Ok-marked.game.save
-    (device_of c.in-Ok-record_play.game.session) c.in-Ok-marked.game.recording (device_of_recording c.in-Ok-record_play.game.recording) _ _ _ _ _ c.in-Ok-record_play.ensures.recorded
+    (device_of c.in-Ok-record_play.game.session) c.in-Ok-marked.game.recording (device_of_recording c.in-Ok-record_play.game.recording) _ _ _ _ _ (c.in-Ok-marked.ensures.belongs (c.in-Ok-certain.ensures.belongs c.in-Ok.ensures.belongs)) c.in-Ok-record_play.ensures.recorded
 
 pub returns-in-Err-clause-served : goal.returns-in-Err-clause-served
 returns-in-Err-clause-served g c =
     not_belonging c.in_ok-cartridge.cartridge (accepted_as _ _ c.in_ok-cartridge.ensures.image (c.in_ok-cartridge.ensures.accepted.0 refl)) c.in_ok-pair.pair.save c.in_ok-pair.pair.recording
-    (g.I.LineInput.remaining c.args.input.now) (g.O.Output.contents c.args.out.now) c.in-Err.fault c.in-Err.ensures
+    (g.I.LineInput.remaining c.args.input.now) (g.O.Output.contents c.args.out.now) c.in-Err.fault c.in-Err.ensures.cause
 
 pub returns-in-Err-certain-clause-served : goal.returns-in-Err-certain-clause-served
 returns-in-Err-certain-clause-served g c =
     not_belonging c.in_ok-cartridge.cartridge (accepted_as _ _ c.in_ok-cartridge.ensures.image (c.in_ok-cartridge.ensures.accepted.0 refl)) c.in-Ok.game.save c.in-Ok.game.recording
-    (g.I.LineInput.remaining c.args.input.now) (g.O.Output.contents c.args.out.now) c.in-Err-certain.fault c.in-Err-certain.ensures
+    (g.I.LineInput.remaining c.args.input.now) (g.O.Output.contents c.args.out.now) c.in-Err-certain.fault c.in-Err-certain.ensures.cause
 
 pub returns-in-Err-marked-clause-served : goal.returns-in-Err-marked-clause-served
 returns-in-Err-marked-clause-served g c =
@@ -48,4 +48,4 @@ returns-clause-served g c =
       | in-Line w ↦ w.result-is ∙ sym (ap refusal_of_record w.in-Line.is)
       | in-Input w ↦ w.result-is ∙ sym (ap refusal_of_record w.in-Input.is)
     ] in
-    subst IsOf (sym is_of) (refused c.in-Err-record_play.refused.why cause)
+    subst IsOf (sym is_of) (refused c.in-Err-record_play.refused.why (c.in-Ok-marked.ensures.belongs (c.in-Ok-certain.ensures.belongs c.in-Ok.ensures.belongs)) cause)
