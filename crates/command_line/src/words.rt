@@ -61,6 +61,8 @@ const DEBUG_LINES: &str = "Lines of the standard input, each answered before the
   until-change N ADDR        up to N steps, until the byte at ADDR is another
   until-write N ADDR [LAST]  up to N steps, to one that writes ADDR, or up to LAST
   until-read N ADDR [LAST]   up to N steps, to one that reads it
+  continue N CONDITION..     up to N steps, to the first of 1 to 16 conditions: a place,
+                             op XX, change ADDR, read ADDR[-LAST], write ADDR[-LAST]
   profile N [PLACE..]        as until, with the M-cycles of each instruction in ROM
   frame BB          one frame with the buttons BB, as in a script
   frames BB N       N such frames, 1 to 1,000,000
