@@ -73,6 +73,23 @@ const ACCESSES: [bool; 256] = [
     true, true, true, false, false, true, false, true, false, false, true, false, false, false, false, true,
 ];
 
+/// A watch for one aim alone.
+#[derive(Clone, Copy)]
+pub(crate) struct OneWatch {
+    pub(crate) aim: Aim,
+}
+
+impl Watch for OneWatch {
+    ghost use Rattle.debugging.specs.Quiet.{is_aim};
+
+    ghost passes = { λ watch p. is_aim p watch.aim ≡ false };
+
+    #[inline(always)]
+    fn may_end(&self, processor: &Processor<Bus>) -> bool {
+        may_be(self.aim, processor)
+    }
+}
+
 /// A watch for one of these aims.
 #[derive(Clone, Copy)]
 pub(crate) struct AimWatch<'a> {

@@ -1,6 +1,6 @@
 //! A debugger's machine, run by steps, up to a place, or by frames.
 
-ghost use Rattle.std.specs.Prelude.{◌≡◌, ◌<◌, ◌≤◌, ◌++◌, [], length, true, false, IfOk, IfSome, nat_lt};
+ghost use Rattle.std.specs.Prelude.{◌≡◌, ◌<◌, ◌≤◌, ◌++◌, [], ◌∷◌, length, true, false, IfOk, IfSome, nat_lt};
 ghost use Rattle.circular_buffer.specs.Buffer.{keep_last};
 ghost use Rattle.machine.specs.Watched.{byte_list};
 ghost use Rattle.memory_map.specs.BusRules.{bus_rules};
@@ -14,11 +14,11 @@ ghost use Rattle.debugging.specs.Answers.{until_steps};
 ghost use Rattle.debugging.specs.Conditions.{holds, number_of};
 ghost use Rattle.debugger.specs.Run.{HasPassed};
 ghost use Rattle.debugging.specs.Run.{after_frame, after_frames, after_seconds, after_steps_of, begun, processor_of, steps_up_to};
-ghost use Rattle.debugging.specs.Quiet.{HasRom, IsQuietFor, Makes, MakesIn, StopsBefore, StopsIn, is_any};
+ghost use Rattle.debugging.specs.Quiet.{HasRom, IsQuietFor, Makes, MakesIn, StopsBefore, StopsIn, has_pc, is_any};
 
 use crate::aims::{Aim, addresses_of, aims_of, is_any, number_of};
 use crate::order::Condition;
-use crate::passing::AimWatch;
+use crate::passing::{AimWatch, OneWatch};
 use crate::registers::{RegisterValue, with_register};
 use cartridge::Cartridge;
 use circular_buffer::HeapCircularBuffer;
@@ -206,16 +206,48 @@ impl Run {
         ensures there { result.is_there ≡ nat_lt (steps_up_to (is_any aims.now) limit (processor_of self)) limit }
     {
         match addresses_of(aims) {
-            Some(addresses) => {
-                let breaks = Breaks::of(addresses.as_slice());
-                self.run_up_to(&breaks, aims, rom, limit)
-            }
-            None => self.run_up_to(&AimWatch { aims }, aims, rom, limit),
+            Some(addresses) => self.run_to_address(addresses.as_slice(), aims, rom, limit),
+            None => match aims {
+                [aim] => self.run_to_one(*aim, aims, rom, limit),
+                _ => self.run_to_any(aims, rom, limit),
+            },
         }
     }
 
-    /// The same, by a watch. Condition: it lets none of them pass.
+    /// The same, where the aims are these addresses.
     #[inline(never)]
+    fn run_to_address(self, addresses: &[u16], aims: &[Aim], rom: usize, limit: u32) -> RunUntil
+        requires rom { HasRom rom (processor_of self).memory }
+        requires same { (p : Processor BusState) → is_any aims.now p ≡ has_pc addresses.now p }
+        ensures run { result.run ≡ after_steps_of (steps_up_to (is_any aims.now) limit (processor_of self)) self }
+        ensures there { result.is_there ≡ nat_lt (steps_up_to (is_any aims.now) limit (processor_of self)) limit }
+    {
+        let breaks = Breaks::of(addresses);
+        self.run_up_to(&breaks, aims, rom, limit)
+    }
+
+    /// The same, where there is one aim.
+    #[inline(never)]
+    fn run_to_one(self, aim: Aim, aims: &[Aim], rom: usize, limit: u32) -> RunUntil
+        requires rom { HasRom rom (processor_of self).memory }
+        requires one { aims.now ≡ aim ∷ [] }
+        ensures run { result.run ≡ after_steps_of (steps_up_to (is_any aims.now) limit (processor_of self)) self }
+        ensures there { result.is_there ≡ nat_lt (steps_up_to (is_any aims.now) limit (processor_of self)) limit }
+    {
+        self.run_up_to(&OneWatch { aim }, aims, rom, limit)
+    }
+
+    /// The same, of any aims.
+    #[inline(never)]
+    fn run_to_any(self, aims: &[Aim], rom: usize, limit: u32) -> RunUntil
+        requires { HasRom rom (processor_of self).memory }
+        ensures run { result.run ≡ after_steps_of (steps_up_to (is_any aims.now) limit (processor_of self)) self }
+        ensures there { result.is_there ≡ nat_lt (steps_up_to (is_any aims.now) limit (processor_of self)) limit }
+    {
+        self.run_up_to(&AimWatch { aims }, aims, rom, limit)
+    }
+
+    /// The same, by a watch. Condition: it lets none of them pass.
     fn run_up_to<W: Watch>(self, watch: &W, aims: &[Aim], rom: usize, limit: u32) -> RunUntil
         requires rom { HasRom rom (processor_of self).memory }
         requires watch { (p : Processor BusState) → W.passes watch.now p → is_any aims.now p ≡ false }
