@@ -1,11 +1,11 @@
-"""Looks inside a cartridge or a game by `gbkeep debug`: a prompt that knows labels and lines of C.
+"""Looks inside a cartridge or a game by `gbkeep debug`: a prompt that knows labels, lines and variables of C, and goes back in time.
 
-usage: gbkeep-debug [--save SAVE] [--do LINE].. [--program GBKEEP] CART [SYM]
+usage: gbkeep-debug [--save SAVE] [--script SCRIPT] [--do LINE].. [--program GBKEEP] CART [SYM]
 
 CART begins at power-on, or with the game in SAVE, which keeps nothing of what is run here. SYM has labels: a .sym of RGBDS or wla-dx, a .noi or
-.map of sdcc. Where none is named, it is the first file beside CART with one of these suffixes that has labels. Lines of C come from a .cdb of sdcc
-beside CART. The lines come from the prompt, or from standard input where that is no terminal; with --do these lines are done and it ends. Then
-the first wrong line ends it, with status 1. `help` lists the lines. It needs nothing but Python."""
+.map of sdcc. Where none is named, it is the first file beside CART with one of these suffixes that has labels. Lines and variables of C come from a .cdb of
+sdcc beside CART. SCRIPT, a script or a recording, goes on while the machine is run. The lines come from the prompt, or from standard input where that is no
+terminal; with --do these lines are done and it ends. Then the first wrong line ends it, with status 1. `help` lists the lines. It needs nothing but Python."""
 import argparse
 import bisect
 import collections
@@ -13,19 +13,22 @@ import contextlib
 import os
 import re
 import signal
-import subprocess
 import sys
 from collections.abc import Iterable, Iterator, Mapping, Sequence
 from pathlib import Path
-from typing import NoReturn
+from typing import NoReturn, Optional
 
 from . import memory_pictures
-from .game import MOST_FRAMES, MOST_SECONDS, MOST_STATE, PICTURE_BYTES, Picture, Refused, find_program, line_of, started
-from .input_files import PathLike, WrongInput, number, printable, read_bytes
+from .debug_program import BYTE_REGISTERS, MOST_PLACES, WORD_REGISTERS, Access, Change, Opcode, Place, Program, Ran, Stop, Wrong
+from .debugger import (ACCESS, BREAK, CALLS, CHANGE, INTERRUPTED, LIMIT, MOST_FRAMES as MOST_CALLS, READ, RESTARTS, STACK_WORDS, WRITE, Debugger, Stopped,
+                       watch_stops)
+from .game import MOST_FRAMES, MOST_SECONDS, MOST_STATE, find_program
+from .input_files import PathLike, WrongInput, printable, read_bytes
 from .machines import SLOTS, STATE_HEADER, STATE_MARK
 from .memory_pictures import MAP_BYTES, MAPS, OAM, OAM_BYTES, REGISTER_BYTES, REGISTERS, VRAM, VRAM_BYTES, Canvas
 from .new_files import Unsafe, new_file
 from .pictures import PICTURE_HEADS, PNG_HEAD, png_of
+from .script import moves_to_play
 from .symbols import SWITCHED, Labels, Source, found_labels, found_source, like, quoted
 from .tools import Failed, Words, name_of_tool, run_tool, say
 
@@ -63,9 +66,35 @@ HELP = '''\
   power               the power switch, off and on: what a battery keeps stays
   digest              the SHA-256 of the machine's snapshot'''
 OWN_HELP = '''\
+  continue            runs to the next breakpoint or watch, without a bound
+  next                to the next line of source, or one instruction; a call is run
+  finish              runs to behind the call that it is in
   over [N]            a step; a call is run to its return, in N steps (1,000,000)
   out [N]             up to N steps, to behind the call that it is in
-  where               registers, flags as letters, and the next three instructions
+  break PLACE [if EXPRESSION] [hits N] [log TEXT]
+                      a breakpoint; with log it says TEXT, where {EXPRESSION} is its value,
+                      and goes on. N is the first hit that stops, or =N, >N, %N and the like
+  watch [read|write|access|change] ADDR [LAST] [if ..] [hits ..] [log ..]
+                      the same at an access (write), before it, or behind a change
+  breakpoints         lists them
+  delete [N]..        removes them, or all
+  step-back [N]       N steps back (1)
+  next-back           to where the line of source begins, or an instruction back; over calls
+  continue-back       to the breakpoint or watch before, or the beginning
+  finish-back         to the call that it is in
+  last-write ADDR [LAST]
+                      to before the last step that wrote ADDR, or ADDR to LAST
+  last-read ADDR [LAST], last-change ADDR
+                      the same of reads; to behind the last step that changed it
+  goto N              to where frame N of those that were played begins
+  goto end            to the end of what was done
+  mark [NAME]         names this place in time for goto NAME; lists the names
+  press BB            presses these buttons, and lets the others go, without a frame
+  print EXPRESSION    its value: registers, [ADDR], labels, variables of C
+  locals              the variables of the function of C that it is in
+  calls               the calls that are not left; ? where it may be none
+  where               registers, flags as letters, LY, the frames that were played, and the
+                      next three instructions
   coverage FILE       writes the M-cycles of each profile so far as a tracefile of lcov: by
                       line of C, and by label; a FILE that is there has to be one
   tiles FILE          writes the 384 tiles of VRAM as PNG
@@ -73,8 +102,8 @@ OWN_HELP = '''\
   objects FILE        writes the 40 objects as PNG
   help, quit
 
-ADDR is a label, or one to four hexadecimal digits, after a $ or not. PLACE is ADDR, or
-BANK:ADDR: then that bank has to be mapped there. A label of a switched bank of ROM is
+ADDR is a label, LABEL+N, FILE:LINE, or one to four hexadecimal digits, after a $ or not.
+PLACE is ADDR, or BANK:ADDR: then that bank has to be mapped there. A label of a switched bank of ROM is
 such a place. The first word behind until is N where it is decimal and another one
 follows, so an address there needs its $. The first step of until is made wherever it
 begins, so that the same line goes on to the next time.
@@ -82,107 +111,32 @@ begins, so that the same line goes on to the next time.
 Elsewhere an address has no bank, and the machine may have mapped another one. A label
 of a bank above 1 is shown with that bank.
 
-out finds the return address as the nearest word on the stack that stands behind a CALL
-or an RST. At the prompt Ctrl-C ends a run and gives the prompt back, and a second one
-ends the prompt; so until-op, until-write and until-read take 10,000,000 steps there.'''
-COMMANDS = re.findall(r'^  ([a-z-]+) ', f'{HELP}\n{OWN_HELP}', re.M) + ['help', 'quit']
+In an EXPRESSION numbers are decimal, and hexadecimal after a $ or 0x. [X] is the byte
+at X, word[X] the word, and operators are those of C.
+
+finish and out find the return address as the nearest word on the stack that stands behind
+a CALL or an RST. Going back is exact: a run is the same every time. What is done in the
+past takes the place of what was done after it. At the prompt Ctrl-C ends a run and gives
+the prompt back, and a second one ends the prompt; an empty line is the last one again,
+and the beginning of a name, or b, c, n, s, p, bt, rs, rn and rc, stands for the name.'''
+COMMANDS = re.findall(r'^  ([a-z-]+) ', f'{HELP}\n{OWN_HELP}', re.M) + ['last-change', 'help', 'quit']
+SHORT = {'b': 'break', 'c': 'continue', 'n': 'next', 's': 'step', 'p': 'print', 'bt': 'calls', 'rs': 'step-back', 'rn': 'next-back', 'rc': 'continue-back'}
 STEPS, ROOM = (1, 0xffff_ffff), (1, 65_536)
 UNTIL, FRAMES, HISTORY, LIST, MEMORY = 1_000_000, 60, 16, 10, 64
-MOST_ADDRESSES, MOST_ROM = 16, 8 << 20
 # the labels that a profile shows
 PROFILE = 20
 # what is run between two looks at whether Ctrl-C was pressed, each some tenths of a second
-SLICE, STEP_SLICE, FRAME_SLICE = 2_000_000, 1_000, 20
+STEP_SLICE, FRAME_SLICE = 1_000, 20
 # runs whose next step has to be known by the program to end them, so that they go in one piece
 PROMPT_STEPS = (1, 10_000_000)
-# a line that nobody types, and an answer of the program
-MOST_LINE, MOST_ANSWER = 1 << 16, 1 << 12
-BYTE_REGISTERS, WORD_REGISTERS = 'AFBCDEHL', ('AF', 'BC', 'DE', 'HL', 'SP', 'PC')
-# as many words of the stack as a return address is looked for in
-STACK_WORDS = 128
-CALLS, RESTARTS = (0xcd, 0xc4, 0xcc, 0xd4, 0xdc), (0xc7, 0xcf, 0xd7, 0xdf, 0xe7, 0xef, 0xf7, 0xff)
+# a line that nobody types, and the names that are given to places in time
+MOST_LINE, MOST_MARKS = 1 << 16, 1000
 # what moves the machine, so that the prompt shows where it is
-MOVES = ('step', 'until', 'until-op', 'until-write', 'until-read', 'until-change', 'profile', 'frame', 'frames', 'restore', 'back', 'power', 'set', 'set-register', 'over', 'out')
-
-
-class Wrong(Failed):
-    """A line, or a file, is wrong: why."""
-
-
-# ---- the program
-
-class Program:
-    """A `gbkeep debug`, whose answer to a line is read before the next is given."""
-
-    def __init__(self, program, cart, save=None):
-        words = [program, 'debug', '--', str(cart), *([str(save)] if save else [])]
-        # what is read, and so never written over
-        self.read = [one for one in (cart, save) if one]
-        # a Ctrl-C is for the prompt alone
-        self.process = started(words, stdin=subprocess.PIPE, stdout=subprocess.PIPE, stderr=subprocess.PIPE,
-                               preexec_fn=lambda: signal.signal(signal.SIGINT, signal.SIG_IGN))
-        self.resumed = self.line() if save else None
-        if self.resumed is not None:
-            self.number(self.resumed, 2 ** 64)
-
-    def ask(self, line, data=b''):
-        """Gives a line and the bytes that it asks for, and answers the first line of the answer."""
-        left = memoryview(line.encode() + b'\n' + data)
-        try:
-            while left:
-                left = left[os.write(self.process.stdin.fileno(), left):]
-        except BrokenPipeError:
-            self.end()
-        answer = self.line()
-        if answer.startswith('wrong '):
-            raise Wrong(f'the program does not take {quoted(line)}')
-        return answer
-
-    def address(self, answer):
-        """The address behind the first word of an answer."""
-        digits = answer.partition(' ')[2]
-        if not re.fullmatch('[0-9A-F]{4}', digits):
-            raise Refused(f'the program answers {quoted(answer)}', 'debug')
-        return int(digits, 16)
-
-    def lines(self, line, count):
-        """Gives a line whose answer has so many lines."""
-        return [self.ask(line), *(self.line() for _ in range(count - 1))]
-
-    def line(self):
-        data = self.process.stdout.readline(MOST_ANSWER)
-        if not data.endswith(b'\n'):
-            self.end()
-        return printable(data[:-1], MOST_ANSWER)
-
-    def number(self, answer, most):
-        """The number behind the first word of an answer."""
-        try:
-            return number(answer.partition(' ')[2], 0, most, 'the answer')
-        except WrongInput:
-            raise Refused(f'the program answers {quoted(answer)}', 'debug') from None
-
-    def bytes(self, count):
-        data = self.process.stdout.read(count)
-        if len(data) != count:
-            self.end()
-        return data
-
-    def close(self):
-        """Ends the program by the end of its input."""
-        self.process.stdin.close()
-        if self.process.wait() != 0:
-            self.end()
-
-    def end(self):
-        """The program has ended of itself."""
-        self.process.kill()
-        line = self.process.stderr.read().decode(errors='replace')
-        raise Refused(line_of(line, self.process.wait()), 'debug')
-
-    def kill(self):
-        self.process.kill()
-        self.process.wait()
+MOVES = ('step', 'until', 'until-op', 'until-write', 'until-read', 'until-change', 'profile', 'frame', 'frames', 'restore', 'back', 'power', 'set', 'set-register', 'over', 'out',
+         'continue', 'next', 'finish', 'step-back', 'next-back', 'continue-back', 'finish-back', 'last-write', 'last-read', 'last-change', 'goto', 'press')
+WATCHES = (READ, WRITE, ACCESS, CHANGE)
+# what may stand behind a breakpoint's place
+OPTION = re.compile(r'(?:^|(?<=\s))(if|hits|log)(?=\s|$)')
 
 
 # ---- lines
@@ -252,130 +206,79 @@ def record_of(path: PathLike, lines: Mapping[int, int], functions: Mapping[str, 
 class Session:
     """What the lines of a prompt do: each answers the lines that are shown."""
 
-    def __init__(self, program: Program, labels: Labels, source: Source, at_prompt: bool = False):
-        self.program, self.labels, self.source, self.at_prompt = program, labels, source, at_prompt
+    def __init__(self, program: Program, cart: str, labels: Labels, source: Source, script: Iterable[tuple] = (), at_prompt: bool = False):
+        self.debugger = Debugger(program, cart, labels, source, script)
+        self.timeline, self.debuggee = self.debugger.timeline, self.debugger.debuggee
+        self.labels, self.source, self.at_prompt = labels, source, at_prompt
         self.read = [*program.read, *(str(one.path) for one in (labels, source) if one.path)]
         # whether Ctrl-C was pressed while a line is done
         self.interrupted = False
-        self.kept = set()
+        self.debugger.goes_on = lambda: not self.interrupted
+        self.debugger.say = lambda text: print(text, flush=True)
+        self.kept: dict[int, bytes] = {}
+        self.marks: dict[str, int] = {}
         # the M-cycles of each profile so far, by bank and address
         self.profiled = collections.Counter()
-        # whether the cartridge is taken, is known once a line is answered
-        self.registers = program.ask('registers')
 
     def do(self, text: str) -> Iterable[str]:
-        name, *words = text.split()
+        name, _, rest = text.partition(' ')
+        name = self.whole_name(name)
         if name == 'save':
             raise Wrong('a debugger saves nothing')
         if name not in COMMANDS:
             raise Wrong(f'{quoted(name)} is no line, and help lists them' + like(name, COMMANDS))
-        return getattr(self, 'do_' + name.replace('-', '_'))(words)
+        # those that have a text of their own take it as it is
+        given = rest.strip() if name in ('break', 'watch', 'print') else rest.split()
+        return getattr(self, 'do_' + name.replace('-', '_'))(given)
+
+    def whole_name(self, name: str) -> str:
+        """The name of a line that is cut short, at the prompt by its beginning alone."""
+        if name in COMMANDS or name in SHORT:
+            return SHORT.get(name, name)
+        found = [one for one in COMMANDS if one.startswith(name)] if self.at_prompt else []
+        return found[0] if len(found) == 1 else name
 
     # ---- words
 
     def address(self, word: str) -> int:
-        """What a word stands for: a label, or hexadecimal digits."""
-        if word in self.labels.named:
-            return self.labels.named[word][1]
-        digits = word[1:] if word.startswith('$') else word
-        if re.fullmatch('[0-9a-fA-F]{1,4}', digits):
-            return int(digits, 16)
-        path = self.labels.path
-        where = f'no label of {printable(path)}' + like(word, self.labels.named) if path else 'there are no labels'
-        raise Wrong(f'{quoted(word)} is no address, and {where}')
+        """What a word stands for: a label, a line of source, or hexadecimal digits."""
+        return self.debugger.place(word).address
 
-    def place(self, word: str) -> str:
-        """A place as the program takes it: with the bank of a label in a switched bank of ROM, or with the one that is named."""
-        bank, colon, rest = word.partition(':')
-        if word not in self.labels.named and colon and re.fullmatch('[0-9a-fA-F]{1,3}', bank):
-            return f'{bank}:{self.address(rest):04X}'
-        address = self.address(word)
-        bank = self.labels.named[word][0] if word in self.labels.named else 0
-        return f'{bank:X}:{address:04X}' if bank and address in SWITCHED and bank <= 0xfff else f'{address:04X}'
+    def span(self, words: Sequence[str]) -> tuple[int, int]:
+        """A first and a last address."""
+        addresses = [self.address(word) for word in few(words, 1, 2)]
+        if addresses[-1] < addresses[0]:
+            raise Wrong(f'{quoted(words[-1])} is below {quoted(words[0])}')
+        return addresses[0], addresses[-1]
 
     def counted(self, words: list[str], span: tuple[int, int], default: int = UNTIL) -> tuple[int, list[str]]:
         """The count before other words, where there is one, and these words."""
         has_count = len(words) > 1 and words[0] not in self.labels.named and is_decimal(words[0])
         return (count_of(words[0], span) if has_count else default), words[has_count:]
 
-    def most_steps(self) -> tuple[int, int]:
-        return PROMPT_STEPS if self.at_prompt else STEPS
-
     # ---- what is shown
 
-    def names(self, address: int) -> list[str]:
-        return self.labels.lines(address) + self.source.lines(address)
-
     def with_labels(self, lines: Iterable[str]) -> Iterator[str]:
-        """Lines of instructions, each behind the labels and the line of C of its address."""
+        """Lines of instructions, each behind the labels and the line of source of its address."""
         for line in lines:
             if re.match('[0-9A-F]{4} ', line):
-                yield from self.names(int(line[:4], 16))
+                yield from self.debugger.names(int(line[:4], 16))
             yield line
 
     def shown_place(self, answer: str) -> list[str]:
-        """Where a run stands, with the labels and the line of C of that place."""
-        address = self.program.address(answer)
-        labels = [line.replace(':', '', 1).replace(' ; ', ', ') for line in self.labels.lines(address)]
-        return [' ; '.join([answer, *labels, *(line.replace(' ; ', ', ') for line in self.source.lines(address))])]
+        """Where a run stands, with the labels and the line of source of that place."""
+        return [' ; '.join([answer, *self.debugger.shown_place(self.debuggee.program.address(answer))])]
 
-    # ---- the machine
+    def shown_stop(self, stopped: Stopped) -> list[str]:
+        """Where a run stands, and at which breakpoints."""
+        return [f'breakpoint {one.shown()}' for one in stopped.breakpoints] + self.shown_place(stopped.line())
 
-    def byte_list(self, address: int, count: int) -> bytes:
-        """What `memory` shows."""
-        lines = self.program.lines(f'memory {address:04X} {count}', (count + 15) // 16)
-        try:
-            data = bytes.fromhex(''.join(line[5:] for line in lines))
-        except ValueError:
-            data = b''
-        if len(data) != count:
-            raise Refused(f'the program answers {quoted(lines[0])}', 'debug')
-        return data
+    def shown_run(self, ran: Ran) -> list[str]:
+        """How a run with a bound ended."""
+        return self.shown_place(f'{"stopped" if ran.met else INTERRUPTED if ran.is_ended else LIMIT} {self.debugger.registers().PC:04X}')
 
-    def register(self, name: str, line: str) -> int:
-        """A register in a line of registers."""
-        found = re.search(rf'\b{name}=([0-9A-F]+)', line)
-        if not found:
-            raise Refused(f'the program answers {quoted(line)}', 'debug')
-        return int(found[1], 16)
-
-    def now(self) -> tuple[int, int]:
-        """PC and SP."""
-        line = self.program.ask('registers')
-        return self.register('PC', line), self.register('SP', line)
-
-    def is_at(self, place: str, address: int) -> bool:
-        bank, colon, digits = place.rpartition(':')
-        if int(digits, 16) != address:
-            return False
-        return not colon or self.program.address(self.program.ask(f'bank {address:04X}')) == int(bank, 16)
-
-    def in_slices(self, count: int, line_for, is_there) -> str:
-        """Runs up to so many steps in slices, and answers as the program does of one run.
-
-        The program looks before each step but the first whether it is there; so between two slices it is looked here."""
-        while True:
-            part = min(count, SLICE)
-            answer, count = self.program.ask(line_for(part)), count - part
-            if not answer.startswith('limit ') or count == 0:
-                return answer
-            address = answer.partition(' ')[2]
-            if is_there(self.program.address(answer)):
-                return f'stopped {address}'
-            if self.interrupted:
-                return f'interrupted {address}'
-
-    def run_to(self, address: int, stack: int, count: int) -> tuple[str, int]:
-        """Runs up to so many steps to this address with this SP, or one above it. Answers as the program does, and the steps that are left, at most."""
-        while True:
-            answer = self.in_slices(count, lambda part: f'until {part} {address:04X}', lambda at: at == address)
-            count -= 1
-            if not answer.startswith('stopped ') or self.now()[1] - stack & 0xffff < 0x8000:
-                return answer, count
-            if count <= 0:
-                return f'limit {address:04X}', 0
-            if self.interrupted:
-                return f'interrupted {address:04X}', count
+    def bytes_of_register(self, name: str) -> int:
+        return self.debugger.registers().value(name)
 
     # ---- lines of the program
 
@@ -383,63 +286,51 @@ class Session:
         count = count_of((few(words, 0, 1) or ['1'])[0], STEPS)
         while count and not self.interrupted:
             part = min(count, STEP_SLICE)
-            yield from self.with_labels([self.program.ask(f'step {part}')])
-            for _ in range(part - 1):
-                # each line is read before the next is wanted, so that none is left behind an interruption
-                yield from self.with_labels([self.program.line()])
+            # all are read before the bank of a label is asked for
+            yield from self.with_labels(list(self.timeline.steps(part)))
             count -= part
+
+    def up_to(self, count: int, stops: Iterable[Stop]) -> list[str]:
+        """A run to one of these stops, as the program makes it: without breakpoints, and behind the last step it is not looked."""
+        return self.shown_run(self.timeline.run(count, stops, self.debugger.goes_on, looks_at_last=False))
 
     def do_until(self, words):
         if not words:
             raise Wrong('no address follows')
         count, words = self.counted(words, STEPS)
-        places = [self.place(word) for word in words]
-        if len(places) > MOST_ADDRESSES:
-            raise Wrong(f'there are {len(places)} addresses, and it takes {MOST_ADDRESSES}')
-        return self.shown_place(self.in_slices(count, lambda part: f'until {part} ' + ' '.join(places), lambda at: any(self.is_at(one, at) for one in places)))
+        places = [self.debugger.place(word) for word in words]
+        if len(places) > MOST_PLACES:
+            raise Wrong(f'there are {len(places)} addresses, and it takes {MOST_PLACES}')
+        return self.up_to(count, places)
 
     def do_until_op(self, words):
         *counts, opcode = few(words, 1, 2)
-        count = count_of(counts[0], self.most_steps()) if counts else UNTIL
-        return self.shown_place(self.program.ask(f'until-op {count} {byte_of(opcode)}'))
+        count = count_of(counts[0], STEPS) if counts else UNTIL
+        return self.up_to(count, [Opcode(int(byte_of(opcode), 16))])
 
-    def accesses(self, name, words):
+    def accesses(self, is_write, words):
         """A run up to an access of one of two addresses and those between."""
-        count, words = self.counted(few(words, 1, 3), self.most_steps())
-        addresses = [self.address(word) for word in few(words, 1, 2)]
-        if addresses[-1] < addresses[0]:
-            raise Wrong(f'{quoted(words[-1])} is below {quoted(words[0])}')
-        return self.shown_place(self.program.ask(f'{name} {count} ' + ' '.join(f'{one:04X}' for one in addresses)))
+        count, words = self.counted(few(words, 1, 3), STEPS)
+        return self.up_to(count, [Access(is_write, *self.span(words))])
 
     def do_until_write(self, words):
-        return self.accesses('until-write', words)
+        return self.accesses(True, words)
 
     def do_until_read(self, words):
-        return self.accesses('until-read', words)
+        return self.accesses(False, words)
 
     def do_until_change(self, words):
         count, words = self.counted(few(words, 1, 2), STEPS)
-        address = self.address(few(words, 1, 1)[0])
-        before = self.byte_list(address, 1)
-        return self.shown_place(self.in_slices(count, lambda part: f'until-change {part} {address:04X}', lambda _: self.byte_list(address, 1) != before))
+        return self.up_to(count, [Change(self.address(few(words, 1, 1)[0]))])
 
     def do_profile(self, words):
         has_count = bool(words) and words[0] not in self.labels.named and is_decimal(words[0])
-        count, words = count_of(words[0], self.most_steps()) if has_count else UNTIL, words[has_count:]
-        if len(words) > MOST_ADDRESSES:
-            raise Wrong(f'there are {len(words)} addresses, and it takes {MOST_ADDRESSES}')
-        answer = self.program.ask(' '.join([f'profile {count}', *map(self.place, words)]))
-        elsewhere = self.program.line()
-        cycles = dict(self.profiled_line(self.program.line()) for _ in range(self.program.number(self.program.line(), MOST_ROM)))
+        count, words = count_of(words[0], PROMPT_STEPS if self.at_prompt else STEPS) if has_count else UNTIL, words[has_count:]
+        if len(words) > MOST_PLACES:
+            raise Wrong(f'there are {len(words)} addresses, and it takes {MOST_PLACES}')
+        answer, elsewhere, cycles = self.timeline.profile(count, [self.debugger.place(word) for word in words])
         self.profiled.update(cycles)
-        return [*self.shown_place(answer), elsewhere, *self.by_label(cycles)]
-
-    def profiled_line(self, line):
-        """Bank and address of a byte of ROM, and the M-cycles of the instructions that began with it."""
-        found = re.fullmatch('([0-9A-F]{4}):([0-9A-F]{4}) ([0-9]+)', line)
-        if not found:
-            raise Refused(f'the program answers {quoted(line)}', 'debug')
-        return (int(found[1], 16), int(found[2], 16)), int(found[3])
+        return [*self.shown_place(answer), f'elsewhere {elsewhere}', *self.by_label(cycles)]
 
     def by_label(self, cycles):
         """The M-cycles of each label of ROM, the most first. What no label stands before is told by its address."""
@@ -477,73 +368,75 @@ class Session:
             yield from record_of(self.labels.path, {numbers[name]: many for name, many in counts.items()}, {name: (numbers[name], many) for name, many in counts.items()})
 
     def do_frame(self, words):
-        return [self.program.ask(f'frame {byte_of((few(words, 0, 1) or ["00"])[0])}')]
+        return [self.timeline.frames(int(byte_of((few(words, 0, 1) or ["00"])[0]), 16), 1)]
 
     def do_frames(self, words):
         buttons, count = (*few(words, 1, 2), str(FRAMES))[:2]
-        left, buttons, answer = count_of(count, (1, MOST_FRAMES)), byte_of(buttons), ''
+        left, buttons, answer = count_of(count, (1, MOST_FRAMES)), int(byte_of(buttons), 16), ''
         while left and not self.interrupted:
             part = min(left, FRAME_SLICE)
-            answer, left = self.program.ask(f'frames {buttons} {part}'), left - part
+            answer, left = self.timeline.frames(buttons, part), left - part
         return [answer if not left else f'interrupted, {left} frames before its end']
 
     def do_seconds(self, words):
-        return [self.program.ask(f'seconds {count_of(few(words, 1, 1)[0], (0, MOST_SECONDS))}')]
+        return [self.timeline.do(f'seconds {count_of(few(words, 1, 1)[0], (0, MOST_SECONDS))}')]
 
     def do_set(self, words):
         address, byte = few(words, 2, 2)
-        return [self.program.ask(f'set {self.address(address):04X} {byte_of(byte)}')]
+        return [self.timeline.do(f'set {self.address(address):04X} {byte_of(byte)}')]
 
     def do_set_register(self, words):
         register, value = few(words, 2, 2)
         register = register.upper()
         if register in WORD_REGISTERS:
-            return [self.program.ask(f'set-register {register} {self.address(value):04X}')]
+            return [self.timeline.do(f'set-register {register} {self.address(value):04X}')]
         if len(register) != 1 or register not in BYTE_REGISTERS:
             raise Wrong(f'{quoted(register)} is none of {", ".join((*BYTE_REGISTERS, *WORD_REGISTERS))}')
-        return [self.program.ask(f'set-register {register} {byte_of(value)}')]
+        return [self.timeline.do(f'set-register {register} {byte_of(value)}')]
 
     def do_registers(self, words):
         few(words, 0, 0)
-        return [self.program.ask('registers')]
+        return [self.debuggee.program.ask('registers')]
 
     def do_history(self, words):
-        count = count_of((few(words, 0, 1) or [str(HISTORY)])[0], ROOM)
-        answer = self.program.ask(f'history {count}')
-        return [answer, *self.with_labels([self.program.line() for _ in range(self.program.number(answer, ROOM[1]))])]
+        lines = self.timeline.history(count_of((few(words, 0, 1) or [str(HISTORY)])[0], ROOM))
+        return [f'history {len(lines)}', *self.with_labels(lines)]
 
     def do_list(self, words):
-        words = few(words, 0, 2) or [f'{self.now()[0]:04X}']
-        address, count = self.address(words[0]), count_of((*words, str(LIST))[1], ROOM)
-        return self.with_labels(self.program.lines(f'list {address:04X} {count}', count))
+        words = few(words, 0, 2) or [f'{self.bytes_of_register("PC"):04X}']
+        place, count = self.debugger.place(words[0]), count_of((*words, str(LIST))[1], ROOM)
+        lines, other = self.debugger.listing(place, count)
+        if other is not None:
+            yield f'bank {place.bank:02X} can\'t be mapped here, and this is bank {other:02X}'
+        if place.bank is None or other is not None or place.address not in SWITCHED:
+            yield from self.with_labels(lines)
+            return
+        for line in lines:
+            address = int(line[:4], 16)
+            yield from self.labels.lines(address, place.bank) + self.source.lines(address, place.bank)
+            yield line
 
     def do_memory(self, words):
         word, number = (*few(words, 1, 2), str(MEMORY))[:2]
         address, count = self.address(word), count_of(number, ROOM)
-        return self.program.lines(f'memory {address:04X} {count}', (count + 15) // 16)
+        return self.debuggee.program.lines(f'memory {address:04X} {count}', (count + 15) // 16)
 
     def do_bank(self, words):
-        return [self.program.ask(f'bank {self.address(few(words, 1, 1)[0]):04X}')]
+        return [self.debuggee.program.ask(f'bank {self.address(few(words, 1, 1)[0]):04X}')]
 
     def do_serial(self, words):
         few(words, 0, 0)
-        answer = self.program.ask('serial')
-        data = self.program.bytes(self.program.number(answer, ROOM[1]) + 1)[:-1]
-        return [answer, *([shown(data)] if data else [])]
+        data = self.debuggee.serial()
+        return [f'serial {len(data)}', *([shown(data)] if data else [])]
 
     def do_picture(self, words):
         path = Path(few(words, 1, 1)[0])
-        data = self.program.ask('picture').encode() + b'\n'
-        data += self.program.bytes(PICTURE_BYTES - len(data))
-        return self.written(path, Picture(data).png() if path.suffix == '.png' else data, PICTURE_HEADS)
-
-    def state(self) -> bytes:
-        answer = self.program.ask('state')
-        return self.program.bytes(self.program.number(answer, MOST_STATE))
+        picture = self.debuggee.picture()
+        return self.written(path, picture.png() if path.suffix == '.png' else picture.pgm, PICTURE_HEADS)
 
     def do_state(self, words):
         path = Path(few(words, 1, 1)[0])
-        return self.written(path, self.state(), (STATE_MARK,))
+        return self.written(path, self.debuggee.state(), (STATE_MARK,))
 
     def do_restore(self, words):
         path = few(words, 1, 1)[0]
@@ -553,10 +446,10 @@ class Session:
             raise Wrong(str(error)) from None
         if len(state) < STATE_HEADER or not state.startswith(STATE_MARK):
             raise Wrong(f'{quoted(path)} is no state: give a file that `state` has written')
-        if not state.startswith(self.state()[:STATE_HEADER]):
+        if not state.startswith(self.debuggee.state()[:STATE_HEADER]):
             raise Wrong(f'{quoted(path)} is a state of another cartridge: begin with that one, or give a state of this one')
         try:
-            return [self.program.ask(f'restore {len(state)}', state)]
+            return [self.timeline.do(f'restore {len(state)}', state)]
         except Wrong:
             raise Wrong(f'{quoted(path)} is damaged: give another state of this cartridge') from None
 
@@ -565,65 +458,220 @@ class Session:
 
     def do_keep(self, words):
         slot = self.slot(words)
-        answer = self.program.ask(f'keep {slot}')
-        self.kept.add(slot)
-        return [answer]
+        # the numbers of the program are those of the machines that are kept to go back
+        self.kept[slot] = self.debuggee.state()
+        return [f'kept {slot}']
 
     def do_back(self, words):
         slot = self.slot(words)
         if slot not in self.kept:
             raise Wrong(f'no machine is kept under {slot}')
-        return [self.program.ask(f'back {slot}')]
+        self.timeline.do(f'restore {len(self.kept[slot])}', self.kept[slot])
+        return [f'back {slot}']
 
     def do_power(self, words):
         few(words, 0, 0)
-        return [self.program.ask('power')]
+        return [self.timeline.do('power')]
 
     def do_digest(self, words):
         few(words, 0, 0)
-        return [self.program.ask('digest')]
+        return [self.debuggee.digest()]
 
     # ---- lines of the prompt's own
+
+    def do_continue(self, words):
+        few(words, 0, 0)
+        return self.shown_stop(self.debugger.run())
+
+    def do_next(self, words):
+        few(words, 0, 0)
+        lines: list[str] = []
+        stopped = self.debugger.by_line(over=True) if self.source.at else self.debugger.over(lines.append)
+        return [*self.with_labels(lines), *self.shown_stop(stopped)]
+
+    def do_finish(self, words):
+        few(words, 0, 0)
+        return self.shown_stop(self.debugger.finish())
+
+    def options(self, text: str) -> tuple[str, dict[str, str]]:
+        """What stands before `if`, `hits` and `log`, and what behind each."""
+        parts = OPTION.split(text)
+        found: dict[str, str] = {}
+        for at in range(1, len(parts), 2):
+            if parts[at] in found or 'log' in found:
+                # behind `log` stands a text
+                last = 'log' if 'log' in found else parts[at]
+                if last != 'log':
+                    raise Wrong(f'{quoted(last)} stands there twice')
+                found[last] += parts[at] + parts[at + 1]
+            else:
+                found[parts[at]] = parts[at + 1]
+        return parts[0].strip(), {name: word.strip() for name, word in found.items()}
+
+    def added(self, kind: str, stops: Iterable[Stop], text: str, options: dict[str, str]) -> list[str]:
+        for name, word in options.items():
+            if not word:
+                raise Wrong(f'nothing stands behind {quoted(name)}')
+        one = self.debugger.add(kind, stops, text, options.get('if', ''), options.get('hits', ''), options.get('log'))
+        return [f'breakpoint {one.shown()}']
+
+    def do_break(self, text):
+        word, options = self.options(text)
+        word = few(word.split(), 1, 1)[0]
+        name, colon, rest = word.rpartition(':')
+        source = self.source.known(name) if colon and is_decimal(rest) and len(rest) < 8 else None
+        return self.added(BREAK, self.debugger.line(source, int(rest)) if source else [self.debugger.place(word)], word, options)
+
+    def do_watch(self, text):
+        text, options = self.options(text)
+        words = text.split()
+        kind = words.pop(0) if words and words[0] in WATCHES and len(words) > 1 else WRITE
+        first, last = self.span(few(words, 1, 2))
+        if kind == CHANGE and last - first >= MOST_PLACES:
+            raise Wrong(f'a change of more than {MOST_PLACES} bytes is not watched')
+        if last == first and len(words) == 1 and (variable := self.debugger.variables.named.get(words[0])):
+            last = first + min(max(variable.type.size, 1), MOST_PLACES) - 1
+        return self.added(kind, watch_stops(kind, first, last), ' '.join(words), options)
+
+    def do_breakpoints(self, words):
+        few(words, 0, 0)
+        return [one.shown() for one in self.debugger.breakpoints.values()] or ['there are no breakpoints']
+
+    def do_delete(self, words):
+        known = self.debugger.breakpoints
+        numbers = [count_of(word, (1, STEPS[1])) for word in words] or list(known)
+        for one in numbers:
+            if one not in known:
+                raise Wrong(f'there is no breakpoint {one}')
+        for one in numbers:
+            known.pop(one, None)
+        return []
+
+    def do_step_back(self, words):
+        return self.shown_stop(self.debugger.step_back(count_of((few(words, 0, 1) or ['1'])[0], STEPS)))
+
+    def do_next_back(self, words):
+        few(words, 0, 0)
+        return self.shown_stop(self.debugger.line_back())
+
+    def do_continue_back(self, words):
+        few(words, 0, 0)
+        return self.shown_stop(self.debugger.run_back())
+
+    def do_finish_back(self, words):
+        few(words, 0, 0)
+        return self.shown_stop(self.debugger.finish_back())
+
+    def last(self, stops: Iterable[Stop], what: str) -> list[str]:
+        found = self.debugger.last_met(stops)
+        if found is False:
+            raise Wrong(f'in the past that is known nothing has {what} it')
+        return self.shown_stop(self.debugger.stopped(INTERRUPTED if found is None else 'stopped'))
+
+    def do_last_write(self, words):
+        return self.last([Access(True, *self.span(words))], 'written')
+
+    def do_last_read(self, words):
+        return self.last([Access(False, *self.span(words))], 'read')
+
+    def do_last_change(self, words):
+        return self.last([Change(self.address(few(words, 1, 1)[0]))], 'changed')
+
+    def do_goto(self, words):
+        word = few(words, 1, 1)[0]
+        tick = self.timeline.end if word == 'end' else self.marks.get(word)
+        if tick is None:
+            if not is_decimal(word) or len(word) > 10:
+                raise Wrong(f'{quoted(word)} is no frame, no mark, and not `end`')
+            tick = self.timeline.tick_of_frame(int(word))
+        if tick is None or tick > self.timeline.end:
+            raise Wrong(f'{quoted(word)} is not among what was done: {self.timeline.frame(self.timeline.end)} frames were played')
+        self.timeline.goto(tick)
+        return self.shown_stop(self.debugger.stopped('stopped'))
+
+    def do_mark(self, words):
+        if not few(words, 0, 1):
+            return list(self.marks) or ['there are no marks']
+        if is_decimal(words[0]) or words[0] == 'end' or len(words[0]) > 100:
+            raise Wrong(f'{quoted(words[0])} is no name of a mark')
+        if len(self.marks) >= MOST_MARKS:
+            raise Wrong(f'there are {MOST_MARKS:,} marks, and no more are taken')
+        self.marks[words[0]] = self.timeline.now
+        return []
+
+    def do_press(self, words):
+        self.timeline.press(int(byte_of(few(words, 1, 1)[0]), 16))
+        return ['done']
+
+    def do_print(self, text):
+        value = self.debugger.value(text)
+        if value.text:
+            return [f'{value.text} ; {value.type.name} at ${value.address:04X}']
+        number = value.number
+        return [f'{number} ${number & 0xffff:04X}' + (f' {number & 0xff:08b}' if 0 <= number < 256 else '')]
+
+    def do_locals(self, words):
+        few(words, 0, 0)
+        function = self.debugger.function()
+        if function is None:
+            raise Wrong('it is in no function of C that is known')
+        variables, memory = self.debugger.variables, self.debugger.memory
+        return [f'{printable(one.name)} = ' + ('not available' if one.address is None else printable(variables.shown(one.type, one.address, memory))) for one in function.variables]
+
+    def do_calls(self, words):
+        few(words, 0, 0)
+        here = self.debugger.registers().PC
+        yield ' ; '.join([f'{here:04X}', *self.debugger.shown_place(here)])
+        for _, call in zip(range(MOST_CALLS), list(self.debugger.calls())):
+            yield ' ; '.join([f'{call.address:04X}' + ('' if call.is_sure else ' ?'), *self.debugger.shown_place(call.address)])
 
     def do_over(self, words):
         count = count_of((few(words, 0, 1) or [str(UNTIL)])[0], STEPS)
         while True:
-            pc, stack = self.now()
-            opcode = self.byte_list(pc, 1)[0]
-            line = self.program.ask('step 1')
+            before = self.debugger.registers()
+            opcode = self.debuggee.memory(before.PC, 1)[0]
+            line = self.debugger.step()
             count -= 1
             yield from self.with_labels([line])
-            after = self.now()
+            after = self.debugger.registers()
             is_interrupt = line.startswith('interrupt ')
-            target = pc if is_interrupt else pc + (3 if opcode in CALLS else 1) & 0xffff
-            if not is_interrupt and (line == 'wait' or opcode not in CALLS + RESTARTS or after[1] != stack - 2 & 0xffff):
+            target = before.PC if is_interrupt else before.PC + (3 if opcode in CALLS else 1) & 0xffff
+            if not is_interrupt and (line == 'wait' or opcode not in CALLS + RESTARTS or after.SP != before.SP - 2 & 0xffff):
                 return
-            if count == 0:
-                yield from self.shown_place(f'limit {after[0]:04X}')
-                return
-            answer, count = self.run_to(target, stack, count)
-            if not is_interrupt or not answer.startswith('stopped ') or count <= 0:
-                yield from self.shown_place(answer)
+            ran, count = self.run_to(target, before.SP, count)
+            if not is_interrupt or not ran.met or count <= 0:
+                yield from self.shown_run(ran)
                 return
             # what the interrupt has put off is still to be run
 
+    def run_to(self, address: int, stack: int, count: int) -> tuple[Ran, int]:
+        """Runs up to so many steps to this address with this SP, or one above it, and answers how it ended, and the steps that are left."""
+        ran = Ran(0, 0)
+        while count > 0:
+            ran = self.timeline.run(count, [Place(address)], self.debugger.goes_on, looks_at_last=False)
+            count -= ran.steps
+            if not ran.met or self.debugger.is_left(stack):
+                return ran, count
+        return Ran(0, 0), 0
+
     def do_out(self, words):
         count = count_of((few(words, 0, 1) or [str(UNTIL)])[0], STEPS)
-        stack = self.now()[1]
-        words_of_stack = self.byte_list(stack, 2 * STACK_WORDS)
-        for at in range(0, 2 * STACK_WORDS, 2):
-            address = words_of_stack[at] | words_of_stack[at + 1] << 8
-            before = self.byte_list(address - 3 & 0xffff, 3)
-            if before[0] in CALLS or before[2] in RESTARTS:
-                return self.shown_place(self.run_to(address, stack + at + 2 & 0xffff, count)[0])
-        raise Wrong(f'no word of the {STACK_WORDS} on the stack stands behind a CALL or an RST')
+        call = next(self.debugger.calls(), None)
+        if call is None:
+            raise Wrong(f'no word of the {STACK_WORDS} on the stack stands behind a CALL or an RST')
+        return self.shown_run(self.run_to(call.address, call.stack, count)[0])
 
     def do_where(self, words):
         few(words, 0, 0)
-        registers = self.program.ask('registers')
-        flags = self.register('F', registers)
-        yield re.sub(r'\b(F=[0-9A-F]+)', rf'\1 {letters(flags)}', registers, count=1)
-        yield from self.with_labels(self.program.lines(f'list {self.register("PC", registers):04X} 3', 3))
+        registers = self.debuggee.program.ask('registers')
+        flags = self.bytes_of_register('F')
+        shown = re.sub(r'\b(F=[0-9A-F]+)', rf'\1 {letters(flags)}', registers, count=1)
+        yield f'{shown} LY={self.debuggee.memory(0xff44, 1)[0]:02X} frame={self.timeline.frame()}'
+        pc = self.bytes_of_register('PC')
+        if not self.labels.at.get(pc) and not self.source.at.get(pc):
+            # between two lines, or behind a label
+            yield from (f'; {one}' for one in self.debugger.shown_place(pc))
+        yield from self.with_labels(self.debuggee.listing(pc, 3))
 
     def written(self, path: Path, data: bytes, begins: tuple[bytes, ...] = (PNG_HEAD,)) -> list[str]:
         try:
@@ -637,20 +685,20 @@ class Session:
         return self.written(Path(word), png_of(canvas.shades, canvas.width, canvas.height, 2))
 
     def do_tiles(self, words):
-        return self.drawn(few(words, 1, 1)[0], memory_pictures.tiles(self.byte_list(VRAM, VRAM_BYTES)))
+        return self.drawn(few(words, 1, 1)[0], memory_pictures.tiles(self.debuggee.memory(VRAM, VRAM_BYTES)))
 
     def do_map(self, words):
         which, name = few(words, 2, 2)
         address = self.address(which)
         if address not in MAPS:
             raise Wrong(f'{quoted(which)} is no map: there are 9800 and 9C00')
-        vram, entries = self.byte_list(VRAM, VRAM_BYTES), self.byte_list(address, MAP_BYTES)
-        return self.drawn(name, memory_pictures.map_of(vram, entries, self.byte_list(REGISTERS, REGISTER_BYTES)))
+        vram, entries = self.debuggee.memory(VRAM, VRAM_BYTES), self.debuggee.memory(address, MAP_BYTES)
+        return self.drawn(name, memory_pictures.map_of(vram, entries, self.debuggee.memory(REGISTERS, REGISTER_BYTES)))
 
     def do_objects(self, words):
         name = few(words, 1, 1)[0]
-        vram, oam = self.byte_list(VRAM, VRAM_BYTES), self.byte_list(OAM, OAM_BYTES)
-        return self.drawn(name, memory_pictures.objects(vram, oam, self.byte_list(REGISTERS, REGISTER_BYTES)))
+        vram, oam = self.debuggee.memory(VRAM, VRAM_BYTES), self.debuggee.memory(OAM, OAM_BYTES)
+        return self.drawn(name, memory_pictures.objects(vram, oam, self.debuggee.memory(REGISTERS, REGISTER_BYTES)))
 
     def do_help(self, words):
         return [*HELP.splitlines(), '', *OWN_HELP.splitlines()]
@@ -664,7 +712,7 @@ def run(session, text):
     if text and not text.startswith('#'):
         for line in session.do(text):
             print(line)
-        if session.at_prompt and text.split()[0] in MOVES:
+        if session.at_prompt and session.whole_name(text.split()[0]) in MOVES:
             for line in session.do('where'):
                 print(line)
         sys.stdout.flush()
@@ -708,9 +756,10 @@ def prompt(session):
     completes(session.labels)
     session.at_prompt = True
     run(session, 'where')
+    last = ''
     while True:
         try:
-            text = input('gbkeep> ')
+            text = last = input('gbkeep> ').strip() or last
         except KeyboardInterrupt:
             print()
             continue
@@ -744,9 +793,10 @@ def done(session, lines: Iterable[str], place):
 
 
 def asked_of(words: list[str]) -> argparse.Namespace:
-    parser = Words(prog=name_of_tool(), usage='%(prog)s [--save SAVE] [--do LINE].. [--program GBKEEP] CART [SYM]', description='Looks inside a cartridge or a game.',
+    parser = Words(prog=name_of_tool(), usage='%(prog)s [--save SAVE] [--script SCRIPT] [--do LINE].. [--program GBKEEP] CART [SYM]', description='Looks inside a cartridge or a game.',
                    epilog=f'Lines:\n{HELP}\n\n{OWN_HELP}', formatter_class=argparse.RawDescriptionHelpFormatter)
     parser.add_argument('--save', metavar='SAVE', help='begins with the game in SAVE, which keeps nothing of this')
+    parser.add_argument('--script', metavar='SCRIPT', help='a script or a recording, whose inputs go on while it runs')
     parser.add_argument('--do', '-c', action='append', metavar='LINE', help='does this line, and ends; may be given again')
     parser.add_argument('--program', default=find_program(), metavar='GBKEEP', help='the program (default: %(default)s)')
     parser.add_argument('cart', metavar='CART', help='the ROM file')
@@ -755,16 +805,17 @@ def asked_of(words: list[str]) -> argparse.Namespace:
 
 
 def main(words: list[str]) -> None:
-    asked, program = asked_of(words), None
+    asked, program, session = asked_of(words), None, None
     try:
         labels, warnings = found_labels(asked.cart, asked.sym)
-        source, more = found_source(asked.cart)
+        source, more = found_source(asked.cart, labels.path)
         for warning in warnings + more:
             say(f'{name_of_tool()}: warning: {warning}')
+        script = list(moves_to_play(asked.cart, asked.script)) if asked.script else []
         program = Program(asked.program, asked.cart, asked.save)
         if program.resumed:
             print(program.resumed, flush=True)
-        session = Session(program, labels, source)
+        session = Session(program, asked.cart, labels, source, script)
         if asked.do:
             done(session, asked.do, '--do')
         elif sys.stdin is None:
@@ -780,6 +831,8 @@ def main(words: list[str]) -> None:
         print(f'\n{name_of_tool()}: ended, since a run that is interrupted does not go on', file=sys.stderr)
         raise
     finally:
+        if session:
+            session.debugger.close()
         if program:
             program.kill()
 

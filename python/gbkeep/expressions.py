@@ -87,7 +87,7 @@ def named(context: Context, name: str) -> Value:
         return byte_at(context, ADDRESSES[name.upper()])
     if name.upper() in REGISTERS:
         return Value(context.registers().value(name.upper()))
-    raise Wrong(f'{quoted(name)} is no register, no label and no variable')
+    raise Wrong(f'{quoted(name)} is no register, no label and no variable' + (f': write ${name}' if re.fullmatch('[0-9A-Fa-f]{2,4}', name) else ''))
 
 
 def field_of(context: Context, value: Value, name: str) -> Value:

@@ -64,9 +64,10 @@ class Header:
 
 
 class Picture:
-    """160 by 144 shades, 0 (darkest) to 3 (lightest), in `shades`, row by row."""
+    """160 by 144 shades, 0 (darkest) to 3 (lightest), in `shades`, row by row; `pgm` is the picture as the program writes it."""
 
     def __init__(self, pgm: bytes):
+        self.pgm = pgm
         self.shades = pgm[len(PICTURE_HEAD)::2].translate(bytes(byte - 48 & 3 for byte in range(256)))
 
     def shade(self, x: int, y: int) -> int:

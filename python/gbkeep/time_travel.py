@@ -4,11 +4,11 @@ A run is the same every time. So a place in time is the nearest machine that is 
 its tick: a step has one, a line such as `set` has one, and a frame that is played as a whole has `FRAME_TICKS`, of which its steps are the first once
 somebody looks into it. What is done in the past takes the place of what was done behind it, where it is something else."""
 import bisect
-from collections.abc import Callable, Iterable, Iterator
+from collections.abc import Callable, Iterable, Iterator, Sequence
 from dataclasses import dataclass, replace
 from typing import Optional
 
-from .debug_program import FRAME_CYCLES, FREE_SLOTS, Debuggee, Ran, Stop, Wrong
+from .debug_program import FRAME_CYCLES, FREE_SLOTS, Debuggee, Place, Ran, Stop, Wrong
 
 # more than a frame has steps
 FRAME_TICKS = FRAME_CYCLES + 4
@@ -64,14 +64,20 @@ class Timeline:
         self.ends = [0]
         for _, count, _ in self.script:
             self.ends.append(self.ends[-1] + count)
-        self.origin = debuggee.state()
-        self.most_checkpoints = min(MOST_CHECKPOINTS, FREE_SLOTS, max(MOST_CHECKPOINT_BYTES // len(self.origin), 8))
+        # the machine at tick 0, from the first move on
+        self.origin = b''
         # the ticks of which a machine is kept, in order, and under which number
         self.kept: list[int] = []
         self.slots: dict[int, int] = {}
-        self.free = list(range(self.most_checkpoints))
+        self.free: list[int] = []
         # of the frame of the script that goes on: where it began, after how many moves, where it ends, and by how much it overruns
         self.measured = (-1, 0, 0, 0)
+
+    def begin(self) -> None:
+        """Notes the machine that the time begins with."""
+        if not self.origin:
+            self.origin = self.debuggee.state()
+            self.free = list(range(min(MOST_CHECKPOINTS, FREE_SLOTS, max(MOST_CHECKPOINT_BYTES // len(self.origin), 8))))
 
     # ---- what is known of a place in time
 
@@ -116,6 +122,7 @@ class Timeline:
 
     def steps(self, count: int) -> Iterator[str]:
         """So many steps, each with its line, which have to be read."""
+        self.begin()
         while count:
             room = self.room()
             part = count if room is None else min(count, room)
@@ -127,23 +134,27 @@ class Timeline:
 
     def do(self, line: str, data: bytes = b'') -> str:
         """A line that moves the machine, and its answer. A wrong one is none."""
+        self.begin()
         answer = self.debuggee.give(line, data)
         self.add(Move(LINE, self.now, 1, line=line, data=data))
         return answer
 
     def press(self, buttons: int) -> None:
         """Presses buttons, which stay so."""
+        self.begin()
         self.debuggee.press(buttons)
         self.add(Move(PRESS, self.now, 1, buttons))
 
     def frames(self, buttons: int, count: int, is_input: bool = False) -> str:
         """So many frames as a whole."""
+        self.begin()
         answer = self.debuggee.give(f'frames {buttons:02X} {count}')
         self.add(Move(FRAMES, self.now, count * FRAME_TICKS, buttons, is_input=is_input))
         return answer
 
     def run(self, most: Optional[int], stops: Iterable[Stop], goes_on: Callable[[], bool] = lambda: True, looks_at_last: bool = True) -> Ran:
         """Runs to a stop, `most` steps at most; without a bound, as long as `goes_on` answers True. The script goes on meanwhile."""
+        self.begin()
         stops, made = list(stops), 0
         while most is None or made < most:
             if most is None and self.begun() is None and self.due() is not None:
@@ -165,6 +176,22 @@ class Timeline:
             if not goes_on():
                 return Ran(made, 0, is_ended=True)
         return Ran(made, 0)
+
+    def profile(self, count: int, places: Sequence[Place] = ()) -> tuple[str, int, dict[tuple[int, int], int]]:
+        """What `profile` of the program does and tells. Its steps are counted behind it, by going there again."""
+        self.begin()
+        self.keep(always=True)
+        here = self.now
+        self.debuggee.collect()
+        answer = self.debuggee.profile(count, [one.word() for one in places])
+        if answer[0].startswith('limit '):
+            self.passed(count)
+            return answer
+        self.back_to(here)
+        self.debuggee.told()
+        ran = self.debuggee.run(count, places, lambda made: self.passed(made) or True)
+        self.passed(ran.untold)
+        return answer
 
     def passed(self, count: int, keeps: bool = True) -> None:
         """The machine has made steps."""
@@ -469,6 +496,26 @@ class Timeline:
             tick, made = before, made + 1
         self.goto(tick)
         return made
+
+    def history(self, count: int) -> list[str]:
+        """The last instructions that ran since something else than a step was done: their steps are made once more."""
+        here, move = self.now, self.move_before(self.now)
+        known = here - move.start if move and move.kind == STEPS else 0
+        back = min(known, 2 * count)
+        while True:
+            self.goto(here - back)
+            self.debuggee.collect()
+            if back:
+                # with none of those that are made again, it would go on behind what ran before
+                self.keep(always=True)
+                self.debuggee.back(self.slots[self.now])
+            self.debuggee.pass_steps(back)
+            self.debuggee.told()
+            self.now = here
+            lines = self.debuggee.history(count) if back else []
+            if len(lines) >= count or back == known:
+                return lines
+            back = min(known, 16 * back)
 
     def tick_of_frame(self, number: int) -> Optional[int]:
         """Where a frame begins that was played, from 0; or where the last one has ended."""

@@ -17,7 +17,7 @@ from gbkeep_tests import support
 from gbkeep_tests.support import CART, DEMO, expect, needs_terminal, tool_words, until, written_png, wrong
 
 # how long an answer may take
-SECONDS = 60
+SECONDS = 200
 # in the demo no jump leads there
 NOWHERE = '0100'
 # as RGBDS writes it, with what other programs add; the second label at 0154 is in another bank
