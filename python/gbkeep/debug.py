@@ -206,15 +206,12 @@ def record_of(path: PathLike, lines: Mapping[int, int], functions: Mapping[str, 
 class Session:
     """What the lines of a prompt do: each answers the lines that are shown."""
 
-    def __init__(self, program: Program, cart: str, labels: Labels, source: Source, script: Iterable[tuple] = (), at_prompt: bool = False):
-        self.debugger = Debugger(program, cart, labels, source, script)
-        self.timeline, self.debuggee = self.debugger.timeline, self.debugger.debuggee
-        self.labels, self.source, self.at_prompt = labels, source, at_prompt
-        self.read = [*program.read, *(str(one.path) for one in (labels, source) if one.path)]
+    def __init__(self, debugger: Debugger, at_prompt: bool = False):
+        self.debugger, self.at_prompt = debugger, at_prompt
+        self.timeline, self.debuggee, self.labels, self.source = debugger.timeline, debugger.debuggee, debugger.labels, debugger.source
+        self.read = [*debugger.program.read, *(str(one.path) for one in (self.labels, self.source) if one.path)]
         # whether Ctrl-C was pressed while a line is done
         self.interrupted = False
-        self.debugger.goes_on = lambda: not self.interrupted
-        self.debugger.say = lambda text: print(text, flush=True)
         self.kept: dict[int, bytes] = {}
         self.marks: dict[str, int] = {}
         # the M-cycles of each profile so far, by bank and address
@@ -815,7 +812,9 @@ def main(words: list[str]) -> None:
         program = Program(asked.program, asked.cart, asked.save)
         if program.resumed:
             print(program.resumed, flush=True)
-        session = Session(program, asked.cart, labels, source, script)
+        session = Session(Debugger(program, asked.cart, labels, source, script))
+        session.debugger.goes_on = lambda: not session.interrupted
+        session.debugger.say = lambda text: print(text, flush=True)
         if asked.do:
             done(session, asked.do, '--do')
         elif sys.stdin is None:
