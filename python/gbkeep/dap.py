@@ -67,7 +67,31 @@ class Broken(Failed):
     """What came is no message."""
 
 
-def message_of(stream: BinaryIO) -> Optional[dict]:
+class Input:
+    """What comes on a descriptor, read without the locks of a stream, which the end of a process would wait for."""
+
+    def __init__(self, descriptor: int):
+        self.descriptor, self.unread = descriptor, bytearray()
+
+    def more(self) -> bool:
+        some = os.read(self.descriptor, 1 << 16)
+        self.unread += some
+        return bool(some)
+
+    def readline(self, most: int) -> bytes:
+        while (end := self.unread.find(b'\n')) < 0 and len(self.unread) < most and self.more():
+            pass
+        return self.read(min(end + 1 if end >= 0 else len(self.unread), most))
+
+    def read(self, count: int) -> bytes:
+        while len(self.unread) < count and self.more():
+            pass
+        data = bytes(self.unread[:count])
+        del self.unread[:count]
+        return data
+
+
+def message_of(stream: Input) -> Optional[dict]:
     """The next message; None at the end. Raises Broken where it is none, and the next one is looked for behind it."""
     length = None
     while True:
@@ -99,7 +123,7 @@ def message_of(stream: BinaryIO) -> Optional[dict]:
 class Inbox:
     """What the editor sends, read while the machine runs."""
 
-    def __init__(self, stream: BinaryIO):
+    def __init__(self, stream: Input):
         self.stream = stream
         self.waiting: collections.deque = collections.deque()
         self.condition = threading.Condition()
@@ -941,7 +965,7 @@ def main(words: list[str]) -> None:
     asked = parser.parse_args(words)
     if sys.stdin is None:
         raise Failed(f'{name_of_tool()}: standard input is closed')
-    adapter = Adapter(Inbox(sys.stdin.buffer), sys.stdout.buffer, asked.program)
+    adapter = Adapter(Inbox(Input(sys.stdin.fileno())), sys.stdout.buffer, asked.program)
     try:
         adapter.serve()
     finally:

@@ -347,6 +347,7 @@ class Timeline:
 
     def keep(self, always: bool = False) -> None:
         """Keeps the machine as it is now, where it is time to."""
+        self.begin()
         at = bisect.bisect_right(self.kept, self.now)
         before = self.kept[at - 1] if at else 0
         if before == self.now and (at or not always) or not always and self.now - before < CHECKPOINT_TICKS:

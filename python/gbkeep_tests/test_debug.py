@@ -1,4 +1,4 @@
-"""Tries gbkeep-debug on the program: labels, wrong lines, the prompt, an end by Ctrl-C, and programs that end.
+"""Tries gbkeep-debug on the program: labels, variables, breakpoints, going back, wrong lines, the prompt, an end by Ctrl-C, and programs that end.
 
 usage: test_debug.py GBKEEP [TEST..]
 
@@ -6,6 +6,7 @@ The status is 1 where a test fails."""
 import hashlib
 import os
 import pty
+import re
 import select
 import signal
 import subprocess
@@ -106,12 +107,12 @@ def test_labels(room):
     expect('the labels of the demo', (status, out.splitlines(), err), (0, [
         'stopped 020F ; walk', 'C000 00 50 50 41 56 00 00 60 01 AE 00 00 00 00 00 00',
         'history 3', '01D5 FA07C0 LD A,(C007)', '01D8 B7     OR A,A', '01D9 C40F02 CALL NZ,020F',
-        'walk:', '020F 2101C0 LD HL,C001', '0212 FA00C0 LD A,(C000)', 'limit 0217', 'fill:', '03E7 22     LD (HL+),A'], ''))
+        'walk:', '020F 2101C0 LD HL,C001', '0212 FA00C0 LD A,(C000)', 'limit 0217 ; walk+8', 'fill:', '03E7 22     LD (HL+),A'], ''))
     sym = room.write('own.sym', SYM)
     status, out, err = room.tool(CART, sym, *do('step 4', 'until 9 $156 Main.loop', 'until Main.loop', 'list Main 3', 'memory wKeys 17', 'until-op 3 fa'))
     expect('labels of RGBDS', (status, out.splitlines(), err), (0, [
         '0100 00     NOP', '0101 C35001 JP 0150', 'Main:', '0150 F3     DI', '0151 31FEFF LD SP,FFFE',
-        'stopped 0156', 'stopped 0154 ; Main.loop ; Elsewhere, bank 03',
+        'stopped 0156 ; Main.loop+2', 'stopped 0154 ; Main.loop ; Elsewhere, bank 03',
         'Main:', '0150 F3     DI', '0151 31FEFF LD SP,FFFE', 'Main.loop:', 'Elsewhere: ; bank 03', '0154 F044   LDH A,(44)',
         'C000 00 00 00 00 00 00 00 00 00 00 00 00 00 00 00 00', 'C010 00', 'limit 0154 ; Main.loop ; Elsewhere, bank 03'], ''))
 
@@ -123,7 +124,7 @@ def test_formats(room):
         path = room.write(name, text)
         first, second, banked = wanted[{WLA: 'own.sym', NOI: 'game.noi', MAP: 'game.map'}[text]]
         expect(f'labels of {name}', room.tool(CART, path, *do(f'until {second}', f'list {first} 2', f'list {banked} 1')), (0, '\n'.join([
-            f'stopped 0154 ; {second}', f'{first}:', '0150 F3     DI', '0151 31FEFF LD SP,FFFE', f'{banked}: ; bank 03', '4000 00     NOP', '']), ''))
+            f'stopped 0154 ; {second}', f'{first}:', '0150 F3     DI', '0151 31FEFF LD SP,FFFE', 'bank 03 can\'t be mapped here, and this is bank 01', '4000 00     NOP', '']), ''))
         path.unlink()
     cart = room.folder / 'game.gb'
     cart.write_bytes(CART.read_bytes())
@@ -145,7 +146,7 @@ def test_lines_of_c(room):
     status, out, err = room.tool(cart, *do('list _main 3', 'until _wait', 'until 2 $156', 'list 0156 1'))
     expect('lines of C', (status, out.splitlines(), err), (0, [
         '_main:', 'main.c:2: disable();', '0150 F3     DI', '0151 31FEFF LD SP,FFFE', '_wait:', 'main.c:3: while (LY != 144);', '0154 F044   LDH A,(44)',
-        'stopped 0154 ; _wait ; main.c:3: while (LY != 144);', 'stopped 0156 ; ../../secret.c:1', '../../secret.c:1', '0156 FE90   CP A,90'], ''))
+        'stopped 0154 ; _wait ; main.c:3: while (LY != 144);', 'stopped 0156 ; _wait+2 ; ../../secret.c:1', '../../secret.c:1', '0156 FE90   CP A,90'], ''))
     room.write('secret.c', 'beside\n')
     room.write('game.cdb', 'M:main\n')
     expect('a .cdb that is none', room.tool(cart, *do('list _main 1')),
@@ -192,7 +193,7 @@ def test_calls(room):
 def test_where(room):
     status, out, err = room.tool(CART, *do('until walk', 'where'))
     expect('where', (status, out.splitlines()[1:], err), (0, [
-        'A=60 F=00 ---- B=00 C=3C D=99 E=10 H=A0 L=01 SP=FFF2 PC=020F IME=0', 'walk:', '020F 2101C0 LD HL,C001', '0212 FA00C0 LD A,(C000)', '0215 CB67   BIT 4,A'], ''))
+        'A=60 F=00 ---- B=00 C=3C D=99 E=10 H=A0 L=01 SP=FFF2 PC=020F IME=0 LY=93 frame=0', 'walk:', '020F 2101C0 LD HL,C001', '0212 FA00C0 LD A,(C000)', '0215 CB67   BIT 4,A'], ''))
 
 
 def shades_of(path):
@@ -338,32 +339,154 @@ def test_ends(room):
 
 
 def test_given(room):
-    """What the program is given for addresses with a bank, for accesses and for changes, and what it answers, is passed on."""
+    """What the program is given for addresses with a bank, for accesses and for changes: runs go to it in parts, and what stands behind their count is passed on."""
     given, sym = room.folder / 'given.txt', room.write('own.sym', SYM.replace('03:0154', '12:4000'))
-    answers = room.write('answers', f'''#!/bin/sh
-while read -r name rest; do
-    echo "$name $rest" >> {given}
-    case $name in
-        registers) echo A=01 F=00 B=00 C=00 D=00 E=00 H=00 L=00 SP=FFFE PC=0150 IME=0 ;;
-        memory) echo C000 00 ;;
-        bank) echo bank 0012 ;;
-        until-read) echo wrong 9 ;;
-        *) echo stopped 4000 ;;
-    esac
-done
-''', 0o755)
-    lines = {'until Elsewhere': 'until 1000000 12:4000', 'until 9 Main 2:4123 3:Main 4000': 'until 9 0150 2:4123 3:0150 4000', 'until-write wKeys': 'until-write 1000000 C000',
-             'until-write 5 wKeys $c0ff': 'until-write 5 C000 C0FF', 'until-write $9800 9BFF': 'until-write 1000000 9800 9BFF',
-             'until-change 7 wKeys': 'until-change 7 C000', 'bank Elsewhere': 'bank 4000', 'list 4000 1': 'list 4000 1'}
-    status, out, err = room.tool(CART, sym, *do(*lines), program=answers)
-    expect('what is answered', (status, out.splitlines(), err), (0, ['stopped 4000 ; Elsewhere, bank 12'] * 6 + ['bank 0012', 'stopped 4000'], ''))
-    expect('what is given', [line.strip() for line in given.read_text().splitlines() if line.strip() not in ('registers', 'memory C000 1')], list(lines.values()))
-    expect('what the program does not take', room.tool(CART, sym, *do('until-read wKeys'), program=answers),
-           (1, '', "gbkeep-debug: --do 1: the program does not take 'until-read 1000000 C000'\n"))
+    tells = room.write('tells', f'#!/bin/sh\ntee {given} | {room.program} "$@"\n', 0o755)
+    lines = {'until 3 Elsewhere': '12:4000', 'until 3 Main 2:4123 3:Main 4000': '0150 2:4123 3:0150 4000', 'until-write 5 wKeys': 'C000',
+             'until-write 5 wKeys $c0ff': 'C000 C0FF', 'until-read 5 $9800 9BFF': '9800 9BFF', 'until-change 7 wKeys': 'C000', 'until-op 2 40': '40',
+             'bank Elsewhere': 'bank 4000', 'list $4000 1': 'list 4000 1'}
+    status, out, err = room.tool(CART, sym, *do(*lines), program=tells)
+    expect('it is done', (status, len(out.splitlines()), err), (0, len(lines), ''))
+    found = given.read_bytes().decode(errors='replace').splitlines()
+    for line, wanted in lines.items():
+        name = line.split()[0]
+        pattern = f'{name} [0-9]+ {wanted}' if name.startswith('until') else wanted
+        expect(f'what is given for {line!r}', any(re.fullmatch(pattern, one) for one in found), True)
     for line, why in (('until-write C0FF C000', "'C000' is below 'C0FF'"), ('until-write 1 2 3 4', 'takes 1 to 3'), ('until-change', 'takes 1 to 2'), ('bank', 'takes 1'), ('until 1000:4000', 'is no address'),
                       ('until :4000', 'is no address'), ('until 1:', 'is no address')):
-        status, out, err = room.tool(CART, sym, *do(line), program=answers)
+        status, out, err = room.tool(CART, sym, *do(line), program=tells)
         expect(f'the error of {line!r}', (status, out, why in err), (1, '', True))
+
+
+# what sdcc adds to its labels by --debug, and what its .cdb says of variables
+DEBUG_NOI = NOI.replace('DEF _main 0x150', 'DEF A$game$169 0x150\nDEF C$main.c$2$0_0$2 0x150\nDEF G$main$0$0 0x150\nDEF _main 0x150\nDEF XG$main$0$0 0x1C7') + '''DEF Fmain$send$0$0 0x20F
+DEF A$game$170 0x151
+DEF G$lives$0_0$0 0xC001
+DEF _lives 0xC001
+'''
+DEBUG_CDB = CDB + '''F:G$main$0_0$0({2}DF,SV:S),C,0,0,0,0,0
+T:Fmain$point[({0}S:S$x$0_0$0({1}SC:U),Z,0,0)({1}S:S$y$0_0$0({1}SC:S),Z,0,0)({2}S:S$next$0_0$0({2}DG,STpoint:S),Z,0,0)]
+S:G$main$0_0$0({2}DF,SV:S),C,0,0
+S:G$lives$0_0$0({1}SC:U),E,0,0
+S:Fmain$trail$0_0$0({8}DA4d,SI:S),E,0,0
+S:G$player$0_0$0({4}STpoint:S),E,0,0
+S:Lmain.main$count$1_0$2({2}SI:U),E,0,0
+S:Lmain.main$i$1_0$2({1}SC:U),R,0,0,[c]
+L:G$main$0_0$0:150
+L:XG$main$0_0$0:1C7
+L:G$lives$0_0$0:C001
+L:Fmain$trail$0_0$0:C010
+L:G$player$0_0$0:C020
+L:Lmain.main$count$1_0$2:C030
+'''
+
+
+def of_c(room):
+    """The demo with what sdcc would write of it."""
+    cart = room.folder / 'game.gb'
+    cart.write_bytes(CART.read_bytes())
+    for name, text in (('game.cdb', DEBUG_CDB), ('main.c', C_SOURCE), ('game.noi', DEBUG_NOI)):
+        room.write(name, text)
+    return cart
+
+
+def test_names_of_c(room):
+    """What --debug of sdcc adds is no label, and names are those of C; the assembler's is taken, too."""
+    cart = of_c(room)
+    expect('names', room.tool(cart, *do('until _wait', 'until send', 'list main 2', 'list _lives 1')), (0, '\n'.join([
+        'stopped 0154 ; _wait ; main.c:3: while (LY != 144);', 'stopped 020F ; send', 'main:', 'main.c:2: disable();', '0150 F3     DI', '0151 31FEFF LD SP,FFFE', 'lives:', 'C001 50     LD D,B', '']), ''))
+    expect('a line', room.tool(cart, *do('until main.c:3'))[1], 'stopped 0154 ; _wait ; main.c:3: while (LY != 144);\n')
+    for line, why in (('until main.c:99', 'has code'), ('until other.c:1', 'is no address'), ('break main+', 'is no address'), ('print live', 'is no register')):
+        expect(f'the error of {line!r}', why in room.tool(cart, *do(line))[2], True)
+
+
+def test_variables(room):
+    """Values by their types: numbers, arrays, structs, pointers, and those of a function; and expressions over them."""
+    cart = of_c(room)
+    bytes_of = {0xc001: 200, 0xc010: 0xff, 0xc011: 0xff, 0xc012: 2, 0xc020: 7, 0xc021: 0xfe, 0xc022: 0x20, 0xc023: 0xc0, 0xc030: 0x34, 0xc031: 0x12}
+    lines = ['until 9 main', *(f'set {address:04X} {byte:02X}' for address, byte in bytes_of.items()), 'print lives', 'print trail', 'print trail[1] + 1', 'print player', 'print player.y', 'print player.next->x',
+             'print *player.next', 'print &player', 'print count', 'print main.count', 'locals', 'print lives > 199 && trail[0] == -1', 'print $C001', 'print word[$C030]', 'print [lives + 49153 - 200]', 'print PC']
+    status, out, err = room.tool(cart, *do(*lines))
+    expect('values', (status, out.splitlines()[1 + len(bytes_of):], err), (0, [
+        '200 ; unsigned char at $C001', '{-1, 2, 0, 0} ; int [4] at $C010', '3 $0003 00000011', '{x = 7, y = -2, next = $C020} ; struct point at $C020', '-2 ; char at $C021', '7 ; unsigned char at $C020',
+        '{x = 7, y = -2, next = $C020} ; struct point at $C020', '49184 $C020', '4660 ; unsigned int at $C030', '4660 ; unsigned int at $C030', 'count = 4660', 'i = not available', '1 $0001 00000001',
+        '49153 $C001', '4660 $1234', '200 $00C8 11001000', '336 $0150'], ''))
+    for line, why in (('print i', 'not available'), ('print player + 1', 'is no number'), ('print player.z', 'no field'), ('print 1 +', 'missing at the end'), ('print (1', 'is missing'), ('print 1 / 0', 'divides by 0'),
+                      ('print ' + '(' * 100, 'too deep'), ('print 1 1', 'nothing may follow'), ('print', 'no expression'), ('print 1 << 99', 'no number of bits'), ('print ;', 'not understood')):
+        status, out, err = room.tool(cart, *do('until 9 main', line))
+        expect(f'the error of {line!r}', (status, why in err, err.count('\n')), (1, True, 1))
+
+
+def test_breakpoints(room):
+    """Breakpoints and watches together, with conditions, counts of hits and log points, and a run without a bound."""
+    lines = ['break walk', 'watch write $C008 if [$C008] == 2', 'break count_time log time {[$C008]}', 'break read_keys hits 3', 'breakpoints', 'continue', 'delete 1', 'continue', 'print [$C008]', 'delete 2', 'continue', 'breakpoints',
+             'delete', 'breakpoints']
+    status, out, err = room.tool(CART, *do(*lines))
+    shown = out.splitlines()
+    expect('they are listed', (status, shown[:8], err), (0, [
+        'breakpoint 1: break walk', 'breakpoint 2: write $C008 if [$C008] == 2', 'breakpoint 3: break count_time log time {[$C008]}', 'breakpoint 4: break read_keys hits 3',
+        '1: break walk', '2: write $C008 if [$C008] == 2', '3: break count_time log time {[$C008]}', '4: break read_keys hits 3'], ''))
+    stops = [line for line in shown if line.startswith('stopped')]
+    expect('where it stops', (stops[0], len(stops), shown[-1]), ('stopped 020F ; walk', 3, 'there are no breakpoints'))
+    expect('what a log point says', [line for line in shown if line.startswith('time ')][:2], ['time $00' if 'time $00' in shown else 'time 0', 'time 1'] if 'time 1' in shown else shown)
+    for line, why in (('break', 'takes 1'), ('break wolk', 'there is walk'), ('break walk if', 'nothing stands behind'), ('break walk if A ==', 'missing'), ('break walk hits x', 'no count of hits'), ('break walk hits %0', 'no count of hits'),
+                      ('break walk if 1 if 2', 'twice'), ('watch', 'takes 1 to 2'), ('watch change C000 C0FF', 'is not watched'), ('delete 5', 'no breakpoint 5'), ('goto 5', 'not among what was done'), ('goto x', 'no mark'), ('mark 5', 'no name'),
+                      ('last-write C000', 'nothing has written it'), ('finish', 'no word of the 128'), ('locals', 'no function of C'), ('press 5', 'two hexadecimal'), ('continue 1', 'takes 0'), ('step-back 0', 'no number')):
+        status, out, err = room.tool(CART, *do(line))
+        expect(f'the error of {line!r}', (status, out, why in err, err.count('\n')), (1, '', True, 1))
+
+
+def test_messages(room):
+    """What a ROM says to debuggers behind LD D,D: a text, or where one is; values between %."""
+    said = b'A is %A%, %nothing%'
+    text = bytes.fromhex('5218') + bytes([4 + len(said)]) + bytes.fromhex('64640000') + said
+    other = bytes.fromhex('52180864640100') + (0x300).to_bytes(2, 'little') + b'\0\0'
+    code = bytes.fromhex('3e2a') + text + other + bytes.fromhex('0018fe')
+    cart = cartridge(room, 'says.gb', code)
+    rom = bytearray(cart.read_bytes())
+    rom[0x300:0x306] = b'there\0'
+    cart.write_bytes(rom)
+    end = 0x150 + len(code) - 2
+    expect('messages', room.tool(cart, *do(f'break ${end:X}', 'continue'))[:2], (0, f'breakpoint 1: break ${end:X}\nA is 2A, %nothing%\nthere\nbreakpoint 1: break ${end:X} ; met 1 times\nstopped {end:04X}\n'))
+
+
+def test_time(room):
+    """Back by steps, lines, calls, breakpoints and writes, to frames, marks and the end; each machine that is come to again is the same."""
+    status, out, err = room.tool(CART, *do('until walk', 'mark there', 'digest', 'step-back 100', 'digest', 'goto there', 'digest', 'next-back', 'step-back 1000000', 'goto end', 'digest', 'last-write $C008', 'where', 'goto there', 'last-change $C008', 'print [$C008]',
+                                           'goto there', 'break count_time', 'continue-back', 'finish-back', 'continue-back', 'mark'))
+    shown = out.splitlines()
+    digests = [line for line in shown if line.startswith('digest')]
+    expect('digests', (status, digests[0] == digests[2] == digests[3], digests[0] == digests[1], err), (0, True, False, ''))
+    expect('where it goes', [line for line in shown if line.startswith(('stopped', 'beginning', 'limit'))], [
+        'stopped 020F ; walk', 'stopped FF87', 'stopped 020F ; walk', 'stopped 01D9 ; vblank+17', 'beginning 0100', 'stopped 020F ; walk', 'stopped 02B7 ; count_time+12', 'stopped 020F ; walk', 'stopped 02BA ; count_time+15',
+        'stopped 020F ; walk', 'stopped 02AB ; count_time', 'stopped 01D2 ; vblank+10', 'beginning 0100'])
+    expect('the marks', shown[-1], 'there')
+    # frames as a whole, and into one of them
+    status, out, err = room.tool(CART, *do('frames 00 30', 'digest', 'frames 80 4', 'digest', 'goto 30', 'digest', 'step-back', 'step', 'digest', 'goto end', 'digest', 'goto 3', 'frames 00 27', 'digest', 'goto 31'))
+    digests = [line for line in out.splitlines() if line.startswith('digest')]
+    expect('frames', (status, digests[0] == digests[2] == digests[5], digests[1] == digests[4], err), (0, True, True, ''))
+
+
+def test_scripts(room):
+    """A script goes on while the machine runs, also where a breakpoint stops within a frame: the machine is the one of the script at its end."""
+    script = room.write('play.script', 'frames 00 30\nframes 80 4\nseconds 3\nframes 01 20\n')
+    done = room.tool(CART, *do('frames 00 30', 'frames 80 4', 'seconds 3', 'frames 01 20', 'digest'))[1].splitlines()[-1]
+    lines = ['break begin_round', 'continue', 'where', 'step 5', 'step-back 5', 'delete', 'break walk hits 15', 'continue', 'step 3', 'watch read $C000', 'continue', 'delete', 'break forever if frame == 0', 'delete']
+    status, out, err = room.tool('--script', script, CART, *do(*lines[:-2], 'goto end', 'where'))
+    stops = [line for line in out.splitlines() if line.startswith('stopped')]
+    expect('it stops', (status, stops[0], len(stops) >= 4, err), (0, 'stopped 01EF ; begin_round', True, ''))
+    frames = [line for line in out.splitlines() if 'frame=' in line]
+    expect('in a frame of the script', (frames[0].endswith('frame=30'), 'frame=54' in frames[-1]), (True, False))
+    # up to its end
+    status, out, err = room.tool('--script', script, CART, *do('break begin_round', 'continue', 'delete', 'profile 3', 'break $FFFF', f'until {20_000 * 54} $FFFF', 'goto 54', 'digest'))
+    expect('the machine at its end', (status, out.splitlines()[-1], err), (0, done, ''))
+
+
+def test_history(room):
+    """The history is what ran, however often it was gone back meanwhile."""
+    wanted = room.tool(CART, *do('until walk', 'history 40'))[1].splitlines()[1:]
+    expect('after a walk', room.tool(CART, *do('until walk', 'step-back 500', 'until walk', 'last-write $C008', 'goto end', 'history 40'))[1].splitlines()[-len(wanted):], wanted)
+    expect('in the past', [line for line in room.tool(CART, *do('until walk', 'step-back', 'history 5'))[1].splitlines() if ' ' in line][-5:][-1], wanted[-2])
 
 
 def child_of(process):
