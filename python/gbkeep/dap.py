@@ -58,7 +58,7 @@ CAPABILITIES = {f'supports{name}': True for name in (
     'RestartFrame', 'GotoTargetsRequest', 'CompletionsRequest', 'RestartRequest', 'LogPoints', 'SetExpression', 'TerminateRequest', 'DataBreakpoints',
     'ReadMemoryRequest', 'WriteMemoryRequest', 'DisassembleRequest', 'InstructionBreakpoints', 'SteppingGranularity', 'BreakpointLocationsRequest',
     'LoadedSourcesRequest')}
-WHYS = {STOP: 'breakpoint', BEGINNING: 'entry', ENTRY: 'entry', INTERRUPTED: 'pause'}
+WHYS = {'goto': 'goto', STOP: 'breakpoint', BEGINNING: 'entry', ENTRY: 'entry', INTERRUPTED: 'pause'}
 
 
 # ---- messages
@@ -494,11 +494,7 @@ class Adapter:
 
     def step_in(self, given: Arguments) -> None:
         by_line = self.is_by_line(given)
-        self.moved(lambda: self.debugger.by_line(over=False) if by_line else self.one_step())
-
-    def one_step(self) -> Stopped:
-        self.debugger.step()
-        return self.debugger.stopped('step')
+        self.moved(lambda: self.debugger.by_line(over=False) if by_line else self.debugger.step()[1])
 
     def step_out(self, given: Arguments) -> None:
         self.moved(self.debugger.finish)
@@ -521,7 +517,8 @@ class Adapter:
         def run() -> Stopped:
             if not self.debugger.last_met([Place(call.address - 3 & 0xffff), Place(call.address - 1 & 0xffff)], lambda met: self.debugger.registers().SP == call.stack):
                 raise Wrong('its call is not in the past that is known')
-            return self.one_step()
+            self.debugger.timeline.step_to(())
+            return self.debugger.stopped('step')
         self.moved(run)
 
     def pause(self, given: Arguments) -> None:
@@ -908,7 +905,7 @@ class Adapter:
 
     def instruction_told(self, row: Optional[str]) -> dict:
         if row is None:
-            return {'address': '0x0000', 'instruction': 'none', 'presentationHint': 'invalid'}
+            return {'address': '0x0000', 'instruction': 'none'}
         address, code = int(row[:4], 16), row[5:11].strip()
         names = self.debugger.names(address)
         told = {'address': f'0x{address:04X}', 'instruction': row[12:], 'instructionBytes': ' '.join(code[at:at + 2] for at in range(0, len(code), 2))}

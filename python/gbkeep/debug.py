@@ -627,7 +627,7 @@ class Session:
         while True:
             before = self.debugger.registers()
             opcode = self.debuggee.memory(before.PC, 1)[0]
-            line = self.debugger.step()
+            line, _ = self.timeline.step_to(())
             count -= 1
             yield from self.with_labels([line])
             after = self.debugger.registers()

@@ -283,6 +283,17 @@ class Debuggee:
         """One step, and its line."""
         return self.program.ask('step 1')
 
+    def step_to(self, stops: Iterable[Stop]) -> tuple[str, tuple[Stop, ...]]:
+        """One step, with its line, and the stops that are met behind it."""
+        lines = stop_lines(stops)
+        if not lines:
+            return self.step(), ()
+        self.collect()
+        self.keep(HERE)
+        before = {one: self.memory(one.address, 1) for one in lines if isinstance(one, Change)}
+        line = self.step()
+        return line, tuple(stop for one in lines if self.is_at_last(one, 1, before) for stop in self.stops_of(one))
+
     def steps(self, count: int) -> Iterator[str]:
         """So many steps, each with its line, which has to be read."""
         yield self.program.ask(f'step {count}')

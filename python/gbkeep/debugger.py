@@ -310,25 +310,24 @@ class Debugger:
             if ran.is_ended:
                 return self.stopped(INTERRUPTED)
 
-    def step(self) -> str:
-        """One step, and its line."""
-        return next(iter(list(self.timeline.steps(1))))
+    def step(self) -> tuple[str, Stopped]:
+        """One step: its line, and what stops behind it."""
+        line, met = self.timeline.step_to(self.stops())
+        found = self.met(met)
+        return line, self.stopped(STOP if found else STEP, found)
 
     def over(self, tell: Callable[[str], None] = lambda line: None) -> Stopped:
         """A step; a call, and an interrupt before the instruction, is run to its return."""
         while True:
             before = self.registers()
             opcode = self.memory(before.PC, 1)[0]
-            line = self.step()
+            line, stopped = self.step()
             tell(line)
             after = self.registers()
             is_interrupt = line.startswith('interrupt ')
             target = before.PC if is_interrupt else before.PC + (3 if opcode in CALLS else 1) & 0xffff
-            if not is_interrupt and (line == 'wait' or opcode not in CALLS + RESTARTS or after.SP != before.SP - 2 & 0xffff):
-                return self.stopped(STEP)
-            found = self.met(tuple(one for one in self.stops() if isinstance(one, Place) and self.debuggee.is_at(one)))
-            if found:
-                return self.stopped(STOP, found)
+            if not is_interrupt and (line == 'wait' or opcode not in CALLS + RESTARTS or after.SP != before.SP - 2 & 0xffff) or stopped.why == STOP:
+                return stopped
             ran = self.run([Place(target)], lambda: self.is_left(before.SP))
             if not is_interrupt or ran.why != STEP:
                 return ran
@@ -370,10 +369,9 @@ class Debugger:
                 if ran.why in (STOP, INTERRUPTED):
                     return ran
             else:
-                self.step()
-                found = self.met(tuple(one for one in self.stops() if isinstance(one, Place) and self.debuggee.is_at(one)))
-                if found:
-                    return self.stopped(STOP, found)
+                ran = self.step()[1]
+                if ran.why == STOP:
+                    return ran
             here = self.registers()
             line = self.line_at(here.PC)
             if line is None:

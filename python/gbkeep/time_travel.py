@@ -132,6 +132,14 @@ class Timeline:
             self.keep()
             count -= part
 
+    def step_to(self, stops: Iterable[Stop]) -> tuple[str, tuple[Stop, ...]]:
+        """One step, with its line, and the stops that are met behind it."""
+        self.begin()
+        self.room()
+        line, met = self.debuggee.step_to(stops)
+        self.passed(1)
+        return line, met
+
     def do(self, line: str, data: bytes = b'') -> str:
         """A line that moves the machine, and its answer. A wrong one is none."""
         self.begin()

@@ -471,15 +471,18 @@ def test_scripts(room):
     """A script goes on while the machine runs, also where a breakpoint stops within a frame: the machine is the one of the script at its end."""
     script = room.write('play.script', 'frames 00 30\nframes 80 4\nseconds 3\nframes 01 20\n')
     done = room.tool(CART, *do('frames 00 30', 'frames 80 4', 'seconds 3', 'frames 01 20', 'digest'))[1].splitlines()[-1]
-    lines = ['break begin_round', 'continue', 'where', 'step 5', 'step-back 5', 'delete', 'break walk hits 15', 'continue', 'step 3', 'watch read $C000', 'continue', 'delete', 'break forever if frame == 0', 'delete']
-    status, out, err = room.tool('--script', script, CART, *do(*lines[:-2], 'goto end', 'where'))
-    stops = [line for line in out.splitlines() if line.startswith('stopped')]
-    expect('it stops', (status, stops[0], len(stops) >= 4, err), (0, 'stopped 01EF ; begin_round', True, ''))
-    frames = [line for line in out.splitlines() if 'frame=' in line]
-    expect('in a frame of the script', (frames[0].endswith('frame=30'), 'frame=54' in frames[-1]), (True, False))
-    # up to its end
-    status, out, err = room.tool('--script', script, CART, *do('break begin_round', 'continue', 'delete', 'profile 3', 'break $FFFF', f'until {20_000 * 54} $FFFF', 'goto 54', 'digest'))
-    expect('the machine at its end', (status, out.splitlines()[-1], err), (0, done, ''))
+    lines = ['break begin_round', 'continue', 'where', 'step 5', 'step-back 5', 'continue', 'where', 'digest', 'step 3', 'continue-back', 'goto end', 'step-back 3', 'digest', 'delete', 'watch read $C000', 'continue', 'where']
+    status, out, err = room.tool('--script', script, CART, *do(*lines))
+    shown = out.splitlines()
+    stops, frames = ([line for line in shown if mark in line] for mark in ('stopped', 'frame='))
+    expect('it stops', (status, [line.split(' ; ')[0] for line in stops[:4]], err), (0, ['stopped 01EF', 'stopped 01EF', 'stopped 01EF', 'stopped 01EF'], ''))
+    expect('in a frame of the script', [line.split()[-1] for line in frames], ['frame=2', 'frame=30', 'frame=30'])
+    digests = [line for line in shown if line.startswith('digest')]
+    expect('the same again', digests[0], digests[1])
+    # up to its end: within frames, and frames as a whole
+    for lines in (['break begin_round', 'continue', 'continue', 'delete', 'break forever if [$C007] > 200', f'until {24 * 17_556} $FFFF', 'goto 54', 'digest'], ['until 2000000 $FFFF', 'goto 54', 'digest']):
+        status, out, err = room.tool('--script', script, CART, *do(*lines))
+        expect('the machine at its end', (status, out.splitlines()[-1], err), (0, done, ''))
 
 
 def test_history(room):
