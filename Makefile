@@ -338,6 +338,8 @@ test:
 	python3 -B -m gbkeep.run_tests --gbkeep $(PROGRAM)/out/gbkeep_program examples/test_roms/all.txt
 	$(PIL_PYTHON) -B python/gbkeep_tests/test_run_tests.py $(PROGRAM)/out/gbkeep_program
 	$(PIL_PYTHON) -B python/gbkeep_tests/test_debug.py $(PROGRAM)/out/gbkeep_program
+	python3 -B python/gbkeep_tests/test_dap.py $(PROGRAM)/out/gbkeep_program
+	python3 -B scripts/time_walks.py $(PROGRAM)/out/gbkeep_program 200
 	$(PIL_PYTHON) -B python/gbkeep_tests/test_hostile_inputs.py $(PROGRAM)/out/gbkeep_program
 	python3 -B scripts/second_storage/refused_memory.py $(PROGRAM)/out/gbkeep_program crates/refused_memory/out/refused_memory
 	RT=$(RT) python3 -B packaging/dist.py passed $(PROGRAM)/out/gbkeep_program

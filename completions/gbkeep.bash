@@ -48,7 +48,8 @@ _gbkeep_known() {
         'gbkeep-battery from-gambatte') options='--mbc2:- --now:- --time:n --help:-' others='-h:-' operands='fff' ;;
         'gbkeep-battery of-save') options='--help:-' others='-h:-' operands='ff' ;;
         gbkeep-run-tests) options='--frames:n --jobs:n --filter:n --shard:n --out:d --junit:f --json:f --slowest:- --bless:- --gbkeep:f --help:-' others='-j:n -h:-' operands='f*' ;;
-        gbkeep-debug) options='--save:f --do:n --program:f --help:-' others='-c:n -h:-' operands='ff' ;;
+        gbkeep-debug) options='--save:f --script:f --do:n --program:f --help:-' others='-c:n -h:-' operands='ff' ;;
+        gbkeep-dap) options='--program:f --help:-' others='-h:-' ;;
     esac
 }
 
@@ -95,4 +96,4 @@ _gbkeep() {
     esac
 }
 
-complete -F _gbkeep gbkeep gbkeep-window gbkeep-script gbkeep-rest gbkeep-movie gbkeep-film gbkeep-branch gbkeep-verify gbkeep-png gbkeep-battery gbkeep-run-tests gbkeep-debug
+complete -F _gbkeep gbkeep gbkeep-window gbkeep-script gbkeep-rest gbkeep-movie gbkeep-film gbkeep-branch gbkeep-verify gbkeep-png gbkeep-battery gbkeep-run-tests gbkeep-debug gbkeep-dap

@@ -289,12 +289,18 @@ function __gbkeep_known
         case 'gbkeep-debug'
             printf '%s\t%s\t%s\t%s\n' \
                 'o' '--save' 'f' 'begins with the game in SAVE, which keeps nothing of this' \
+                'o' '--script' 'f' 'a script or a recording, whose inputs go on while it runs' \
                 'o' '--do' 'n' 'does this line, and ends; may be given again' \
                 's' '-c' 'n' 'does this line, and ends; may be given again' \
                 'o' '--program' 'f' 'the program' \
                 'o' '--help' '-' 'tells its help' \
                 's' '-h' '-' 'tells its help' \
                 'p' 'ff' '' ''
+        case 'gbkeep-dap'
+            printf '%s\t%s\t%s\t%s\n' \
+                'o' '--program' 'f' 'the program' \
+                'o' '--help' '-' 'tells its help' \
+                's' '-h' '-' 'tells its help'
     end
 end
 
@@ -362,7 +368,7 @@ function __gbkeep_words
     printf '%s\n' $state[2..-1]
 end
 
-for tool in gbkeep gbkeep-window gbkeep-script gbkeep-rest gbkeep-movie gbkeep-film gbkeep-branch gbkeep-verify gbkeep-png gbkeep-battery gbkeep-run-tests gbkeep-debug
+for tool in gbkeep gbkeep-window gbkeep-script gbkeep-rest gbkeep-movie gbkeep-film gbkeep-branch gbkeep-verify gbkeep-png gbkeep-battery gbkeep-run-tests gbkeep-debug gbkeep-dap
     complete -e -c $tool
     complete -c $tool -f
     complete -c $tool -n '__gbkeep_wants w' -a '(__gbkeep_words)'

@@ -241,7 +241,7 @@ class Release:
         self.package('gbkeep-testers', f'Section: devel\n{every}{relation("Depends", own, *needed, "python3")}{relation("Recommends", *named)}'
                      "Description: runner of test ROMs and debugger's prompt for gbkeep\n"
                      ' gbkeep-run-tests runs test ROMs, folders and lists of them on all\n processors, and writes reports for a CI. gbkeep-debug looks inside a ROM or a\n game by'
-                     ' labels and lines of C.\n')
+                     ' labels and lines of C, and goes back in time. gbkeep-dap does so in\n an editor.\n')
         has_core = self.package('gbkeep-libretro', f'Section: otherosfs\n{here}Depends: libc6 (>= {self.libc("gbkeep-libretro")})\n'
                                 'Enhances: kodi, retroarch\nDescription: libretro core for gbkeep\n'
                                 ' RetroArch, Kodi and other front ends play a game of gbkeep by it: the proved\n machine and the proved session, in the front end\'s own process. It keeps the\n'

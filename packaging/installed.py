@@ -22,7 +22,7 @@ PROGRAM, PYTHON, WINDOW, TESTERS, CORE, LIBRARY, HEADERS = ('gbkeep', 'python3-g
                                                            'libgbkeep-dev')
 SOURCES = Path('python')
 # what testers have; the other tools are the players'
-OF_TESTERS = ('gbkeep-run-tests', 'gbkeep-debug')
+OF_TESTERS = ('gbkeep-run-tests', 'gbkeep-debug', 'gbkeep-dap')
 # one folder that works alone: Python looks for modules where the file lies that a link leads to
 ALONE = 'share/gbkeep'
 DEBIAN = 'lib/python3/dist-packages'

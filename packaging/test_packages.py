@@ -18,7 +18,7 @@ from gbkeep_tests.support import expect
 ROOT = Path(__file__).resolve().parent.parent
 MIRROR = os.environ.get('DEBIAN_MIRROR', 'http://deb.debian.org/debian')
 PACKAGES = {'gbkeep', 'python3-gbkeep', 'gbkeep-window', 'gbkeep-testers', 'gbkeep-libretro', 'libgbkeep0', 'libgbkeep-dev'}
-COMMANDS = {'gbkeep', 'gbkeep-run-tests', 'gbkeep-debug', *(f'gbkeep-{name}' for name in 'window script rest movie film branch verify png battery'.split())}
+COMMANDS = {'gbkeep', 'gbkeep-run-tests', 'gbkeep-debug', 'gbkeep-dap', *(f'gbkeep-{name}' for name in 'window script rest movie film branch verify png battery'.split())}
 OLDER = '0.0.9'
 LOAD = 'import ctypes; library = ctypes.CDLL("libgbkeep.so.0"); library.gbkeep_fault_text.restype = ctypes.c_char_p; print(library.gbkeep_fault_text(0).decode())'
 PYTHON = '''

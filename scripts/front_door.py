@@ -269,7 +269,7 @@ def installed(room):
     status, got = shell(room, 'make install PREFIX=inst' + ('' if BUILT[0].exists() else ' CC=none'))
     wrong = [f'make install: {got}'] if status != 0 else []
     for path in ('bin/gbkeep', 'bin/gbkeep-window', 'bin/gbkeep-script', 'bin/gbkeep-rest', 'bin/gbkeep-movie', 'bin/gbkeep-film', 'bin/gbkeep-branch', 'bin/gbkeep-verify', 'bin/gbkeep-battery',
-                 'bin/gbkeep-run-tests', 'bin/gbkeep-debug', 'share/man/man1/gbkeep.1', 'share/man/man1/gbkeep-window.1', 'share/applications/gbkeep.desktop',
+                 'bin/gbkeep-run-tests', 'bin/gbkeep-debug', 'bin/gbkeep-dap', 'share/man/man1/gbkeep.1', 'share/man/man1/gbkeep-window.1', 'share/applications/gbkeep.desktop',
                  'share/bash-completion/completions/gbkeep', 'share/gbkeep/gbkeep/__init__.py'):
         if not os.path.exists(os.path.join(room, 'inst', path)):
             wrong.append(f'make install leaves no {path}')

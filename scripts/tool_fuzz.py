@@ -294,9 +294,11 @@ def debuggers(rnd, room):
         b'[labels]\n0000:0150 Main\n0003:4000 Elsewhere\n[definitions]\n00000005 FIVE\n', b'DEF Main 0x150\nDEF Elsewhere 0x34000\nDEF l__CODE 0x3A3\nLOAD game.ihx\n',
         b'ASxxxx Linker V03.00\n      Value  Global   Global Defined In Module\n     00000150  Main     main\n     00034000  Elsewhere\n'])))
     if rnd.random() < 0.3:
-        room.write('demo.cdb', damaged(rnd, b'M:main\nL:C$moves.txt$1$0_0$2:150\nL:C$main.c$3$1_0$2:34000\nL:C$../moves.txt$1$1_0$2:154\n'))
+        room.write('demo.cdb', damaged(rnd, b'M:main\nL:C$moves.txt$1$0_0$2:150\nL:C$main.c$3$1_0$2:34000\nL:C$../moves.txt$1$1_0$2:154\nS:G$wKeys$0_0$0({4}DA2d,SI:S),E,0,0\nL:G$wKeys$0_0$0:C000\n'
+                                       b'T:Fmain$s[({0}S:S$x$0_0$0({1}SC:U),Z,0,0)]\nS:G$Main$0_0$0({1}STs:S),E,0,0\nL:G$Main$0_0$0:C004\n'))
     names = [b'step', b'until', b'until-op', b'frame', b'frames', b'seconds', b'registers', b'history', b'list', b'memory', b'serial', b'picture', b'digest', b'help', b'quit', b'save',
-             b'until-write', b'until-read', b'until-change', b'bank', b'set', b'set-register', b'profile', b'over', b'out', b'where', b'tiles', b'map 9800', b'map', b'objects']
+             b'until-write', b'until-read', b'until-change', b'bank', b'set', b'set-register', b'profile', b'over', b'out', b'where', b'tiles', b'map 9800', b'map', b'objects', b'break', b'watch', b'watch read', b'delete', b'breakpoints', b'step-back', b'continue-back', b'next-back', b'finish-back', b'last-write',
+             b'last-read', b'last-change', b'goto', b'goto end', b'mark', b'press', b'print', b'locals', b'calls']
     typed = b'\n'.join(b' '.join([rnd.choice(names), *(rnd.choice([b'Main', b'Elsewhere', b'2:4000', b'0150', b'$156', b'3', b'00', b'HL', b'wKeys', some_count(rnd)]) for _ in range(rnd.randrange(3)))]) for _ in range(rnd.randrange(6)))
     if re.search(rb'(step|until|until-op|until-write|until-read|until-change|profile|over|out|frames|seconds) [0-9]{6}', typed):
         typed = b'registers\n'

@@ -17,6 +17,7 @@ from typing import Optional
 from gbkeep_tests import support
 from gbkeep_tests.support import CART, DEMO, expect, tool_words, wrong
 from gbkeep_tests.test_debug import C_SOURCE, DEBUG_CDB, DEBUG_NOI, Room, cartridge
+from scripts.doctor import told
 
 SECONDS = 120
 DEBIAN = '/usr/lib/python3/dist-packages'
@@ -177,7 +178,7 @@ class Client:
 def test_schema(room):
     """Whether messages are checked by the schema."""
     if schema() is None:
-        raise unittest.SkipTest("the schema of the debug adapter's messages: install python3-pydevd")
+        raise unittest.SkipTest(f"the schema of the debug adapter's messages: {told('pydevd')}")
 
 
 def test_runs(room):

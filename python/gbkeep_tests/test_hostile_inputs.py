@@ -187,6 +187,12 @@ def attack_lines_of_c(room):
     done = room.run('debug', '--do', 'list 0150 1', 'lines.gb')
     shown = done.stdout.splitlines()
     room.expect('lines of C', (done.returncode, shown[-1:], done.stderr, b'\x1b' in done.stdout, b'root' in done.stdout), (0, [b'0150 F3     DI'], b'', False, False))
+    # variables whose types go on without end, are none, or lie nowhere
+    room.write('lines.cdb', 'L:C$main.c$1$0$0:150\nT:Fmain$s[({0}S:S$s$0_0$0({9}STs:S),Z,0,0)({1}S:S$n$0_0$0({2}DG,STs:S),Z,0,0)]\n' + ''.join(
+        f'S:G${name}$0_0$0({kind}),E,0,0\nL:G${name}$0_0$0:{place}\n' for name, kind, place in (
+            ('s', '{9}STs:S', 'C000'), ('a', '{9}' + 'DA9d,' * 50 + 'SC:U', 'C000'), ('b', '{999999}DA999999d,STs:S', 'FFFF'), ('c', '{2}SB9$99:U', 'C000'), ('d', '{2}DG', 'C000'), ('e', '{9}' + 'DA99999d,' * 6 + 'STs:S', 'C000'))))
+    done = room.run('debug', *(word for one in ('s', 's.n->n->s', 'b', 'b[5]', 'e', 'e[1]') for word in ('--do', f'print {one}')), 'lines.gb')
+    room.expect('variables', (done.returncode, len(done.stdout.splitlines()), done.stderr), (0, 6, b''))
     room.write('lines.cdb', 'L:C$main.c$1$0$0:zz\n' * 1000)
     done = room.run('debug', '--do', 'list 0150 1', 'lines.gb')
     room.expect('no lines of C', (done.returncode, done.stdout, done.stderr.count(b'\n')), (0, b'0150 F3     DI\n', 1))
@@ -211,6 +217,8 @@ def attack_debugger(room):
     for line in (f'step {NINES}', f'until {NINES} 0150', f'memory {NINES} 3', f'list 0150 {NINES}', f'history {NINES}', 'x' * 100_000, 'until \x1b[31m', '\x1b]0;x\x07', f'seconds {NINES}',
                  'picture a\0b', 'picture ' + 'x' * 5000, f'until {"f" * 5000}:4000', f'until-change {NINES} C000', f'over {NINES}', f'out {NINES}', 'tiles a\0b', 'map 9800 ' + 'x' * 5000,
                  f'map {NINES} made.png', 'objects fifo', 'tiles demo.gb', 'map 9c00 run.gbkeep', 'until ' + '0150 ' * 1000,
+                 f'break {"f" * 5000}', 'break 0150 if ' + '(' * 900, f'break 0150 hits {NINES}', 'break 0150 if A ' + 'x' * 5000, 'break 0150 log ' + 'x' * 5000, f'watch {NINES}', f'delete {NINES}',
+                 f'step-back {NINES}', f'goto {NINES}', 'goto \x1b[31m', f'print {NINES}' + '9' * 900, 'print 1' + '+1' * 600, 'print \x1b[31m', 'print [[[[', f'press {NINES}', f'mark {NINES}', f'last-write {NINES}',
                  f'keep {NINES}', f'back {NINES}', 'keep 1000', 'back 0', 'keep \u0661', 'back -1', f'power {NINES}'):
         room.refused(f'the line {line[:20]!r}', 'debug', 'demo.gb', typed=f'{line}\n'.encode(), says='line')
     with open('/dev/zero', 'rb') as zeros:
@@ -551,7 +559,7 @@ def attack_locked_battery(room):
 # ---- words and programs
 
 def attack_words(room):
-    tools = ['script', 'rest', 'movie', 'branch', 'verify', 'png', 'film', 'battery', 'run_tests', 'debug']
+    tools = ['script', 'rest', 'movie', 'branch', 'verify', 'png', 'film', 'battery', 'run_tests', 'debug', 'dap']
     for tool in tools:
         for words in (('--help',), ('-h',)):
             done = room.run(tool, *words)
@@ -560,7 +568,7 @@ def attack_words(room):
         done = subprocess.run(['sh', '-c', f'{line} --help > /dev/full'], cwd=room.folder, capture_output=True, timeout=SECONDS, env=dict(os.environ, PYTHONUNBUFFERED='1'))
         room.expect(f'{tool} --help: {done.stderr[-200:]!r}', (done.returncode, b'Traceback' in done.stderr, len(done.stderr.splitlines())), (1, False, 1))
         for words in ((), ('--none',), ('a',) * 9):
-            if tool == 'run_tests' and words == ('a',) * 9:
+            if (tool, words) in (('run_tests', ('a',) * 9), ('dap', ())):
                 continue
             room.refused(f'{tool} {words}', tool, *words, status=2)
     room.write('nothing', 'x').chmod(0o755)
