@@ -75,6 +75,7 @@ TYPED = [
     ('gbkeep-debug --do help --do ', NOTHING),
     ('gbkeep-debug --save ', FILES),
     ('gbkeep-debug x.gb ', FILES),
+    ('gbkeep-dap --p', {'--program'}),
 ]
 
 

@@ -47,7 +47,7 @@ class Move:
         return (tick - self.start) // FRAME_TICKS if self.kind == FRAMES else int(self.kind == END and tick >= self.end)
 
     def inputs_to(self, tick: int) -> int:
-        return self.frames_to(tick) if self.kind in (FRAMES, END) else int(tick >= self.end)
+        return int(tick >= self.end) if self.kind == LINE else self.frames_to(tick)
 
 
 class Timeline:
@@ -170,7 +170,9 @@ class Timeline:
                 if ran:
                     return replace(ran, steps=made + ran.steps)
                 continue
-            room = self.room()
+            room = self.room(begins=most is not None)
+            if room == 0:
+                continue
             part = min(one for one in (room, None if most is None else most - made, 1 << 31) if one is not None)
 
             def told(count: int) -> bool:
@@ -262,8 +264,9 @@ class Timeline:
         kind, count, value = self.script[at]
         return kind, count - (done - self.ends[at]), value
 
-    def room(self) -> Optional[int]:
-        """How many steps the frame of the script has left, once what is due is begun; None where the script goes on no more."""
+    def room(self, begins: bool = True) -> Optional[int]:
+        """How many steps the frame of the script has left, once what is due is begun; None where the script goes on no more. Where it `begins` nothing, 0 at
+        the end of a frame."""
         while True:
             begun = self.begun()
             if begun is not None:
@@ -272,6 +275,8 @@ class Timeline:
                     return left
                 self.debuggee.begin_count(overrun)
                 self.add(Move(END, self.now, max(begun.start + FRAME_TICKS - self.now, 1), overrun, is_input=True))
+                if not begins:
+                    return 0
                 continue
             due = self.due()
             if due is None:

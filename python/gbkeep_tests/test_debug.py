@@ -476,7 +476,7 @@ def test_scripts(room):
     shown = out.splitlines()
     stops, frames = ([line for line in shown if mark in line] for mark in ('stopped', 'frame='))
     expect('it stops', (status, [line.split(' ; ')[0] for line in stops[:4]], err), (0, ['stopped 01EF', 'stopped 01EF', 'stopped 01EF', 'stopped 01EF'], ''))
-    expect('in a frame of the script', [line.split()[-1] for line in frames], ['frame=2', 'frame=30', 'frame=30'])
+    expect('in a frame of the script', [line.split()[-1] for line in frames], ['frame=2', 'frame=30', 'frame=31'])
     digests = [line for line in shown if line.startswith('digest')]
     expect('the same again', digests[0], digests[1])
     # up to its end: within frames, and frames as a whole
