@@ -9,7 +9,7 @@ from dataclasses import dataclass, field
 from typing import Callable, Optional
 
 from .input_files import PathLike, WrongInput, printable, read_bytes
-from .symbols import MOST_LABEL, MOST_SYMBOLS, of_bank
+from .symbols import MOST_LABEL, MOST_SYMBOLS, is_seen, of_bank
 
 SYMBOL = re.compile(r'S:(G|F[^$]{1,%d}|L[^$]{1,%d})\$([^$]{1,%d})\$([^$(]{1,32}\$[^$(]{1,32})\((\{[0-9]{1,6}\}[^)]{1,400})\),([A-Z]),([01]),(-?[0-9]{1,6})' % (
     MOST_LABEL, MOST_LABEL, MOST_LABEL))
@@ -104,11 +104,12 @@ class Variables:
                 self.named.setdefault(name, one)
 
     def function_at(self, address: int, bank: Optional[int]) -> Optional[Function]:
-        return next((one for one in self.functions if one.first <= address <= one.last and (bank is None or address < 0x4000 or max(one.bank, 1) == bank)), None)
+        return next((one for one in self.functions if one.first <= address <= one.last and is_seen(one.bank, address, bank)), None)
 
     def variable(self, name: str, function: Optional[Function]) -> Optional[Variable]:
         """A variable by its name, as it is seen in a function."""
-        return next((one for one in function.variables if one.name == name), None) if function and any(one.name == name for one in function.variables) else self.named.get(name)
+        own = next((one for one in function.variables if one.name == name), None) if function else None
+        return own or self.named.get(name)
 
     # ---- types
 

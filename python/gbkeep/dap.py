@@ -4,8 +4,8 @@ usage: gbkeep-dap [--program GBKEEP]
 
 An editor starts it, and launches a cartridge by these arguments of `launch`: `program`, the ROM; and, where wanted, `symbols`, its labels (else a .sym, .noi or
 .map beside it); `save`, a game that keeps nothing of this; `state`, a file that `state` of gbkeep-debug has written; `script`, a script or a recording, which
-goes on while the machine runs; `stopOnEntry` (true); and `gbkeep`, the program. Lines and variables of C come from a .cdb of sdcc beside the ROM. Time goes both
-ways: stepBack and reverseContinue are exact. In its console it takes the lines of gbkeep-debug, too. It needs nothing but Python."""
+goes on while the machine runs; `stopOnEntry` (true); and `gbkeep`, the program. Lines and variables of C come from a .cdb of sdcc beside the ROM. Time
+goes both ways: stepBack and reverseContinue are exact. In its console it takes the lines of gbkeep-debug, too. It needs nothing but Python."""
 import argparse
 import base64
 import binascii
@@ -20,13 +20,13 @@ import time
 from collections.abc import Callable, Iterable, Iterator
 from dataclasses import dataclass
 from pathlib import Path
-from typing import Any, BinaryIO, NoReturn, Optional
+from typing import BinaryIO, NoReturn, Optional
 
 from . import memory_pictures
 from .c_variables import NOT_AVAILABLE, Type, Variable
 from .debug import COMMANDS, MOVES, Session
 from .debug_program import WORD_REGISTERS, Opcode, Place, Program, Stop, Wrong
-from .debugger import (ACCESS, BEGINNING, BREAK, CHANGE, ENTRY, INTERRUPTED, MOST_BREAKPOINTS, OPCODE, READ, STOP, WRITE, Breakpoint, Debugger, Stopped, watch_stops)
+from .debugger import ACCESS, BEGINNING, BREAK, CHANGE, ENTRY, INTERRUPTED, MOST_BREAKPOINTS, OPCODE, READ, STOP, WRITE, Debugger, Stopped, watch_stops
 from .expressions import Expression, number_of
 from .game import HEIGHT, MOST_STATE, WIDTH, Refused, find_program
 from .hardware_registers import NAMES, decoded
@@ -48,6 +48,7 @@ LABEL = re.compile(r'\s*([A-Za-z_][\w.@#$]*|\.[A-Za-z_][\w@#$]*):{0,2}(?=\s|:|;|
 # how often what was sent over the serial port is told while it runs
 TELL_SECONDS = 0.1
 THREAD, REGISTERS, FLAGS, HARDWARE, GLOBALS, LOCALS, TIME, FIRST_PART = 1, 1, 2, 3, 4, 5, 6, 1_000
+SCOPES = [('Registers', REGISTERS), ('Flags', FLAGS), ('Hardware registers', HARDWARE), ('Globals', GLOBALS), ('Time', TIME)]
 FLAG_BITS = {'Z': 7, 'N': 6, 'H': 5, 'C': 4}
 # requests that end a run of any kind, and those before which nothing has to be launched
 ENDING, BEFORE_LAUNCH = ('pause', 'disconnect', 'terminate', 'restart'), ('initialize', 'launch', 'attach', 'disconnect', 'terminate')
@@ -212,6 +213,11 @@ class Arguments:
         return int(text, 16) + self.number('offset', -0x10000, 0x10000, 0)
 
 
+def numbered(sequence: object) -> int:
+    """The number of a request, as far as it is one."""
+    return sequence if isinstance(sequence, int) and not isinstance(sequence, bool) and abs(sequence) < 1 << 53 else 0
+
+
 # ---- sources of assembler
 
 @dataclass
@@ -296,8 +302,9 @@ class Adapter:
     def refuse(self, request: dict, why: object) -> None:
         sequence, command = request.get('seq'), request.get('command')
         text = printable(why, 2_000)
-        self.send({'type': 'response', 'request_seq': sequence if isinstance(sequence, int) and abs(sequence) < 1 << 53 else 0, 'success': False,
-                   'command': command if isinstance(command, str) else '', 'message': text, 'body': {'error': {'id': 1, 'format': text.replace('{', '(').replace('}', ')')}}})
+        error = {'id': 1, 'format': text.replace('{', '(').replace('}', ')')}
+        self.send({'type': 'response', 'request_seq': numbered(sequence), 'success': False, 'command': command if isinstance(command, str) else '',
+                   'message': text, 'body': {'error': error}})
 
     # ---- what comes
 
@@ -334,8 +341,8 @@ class Adapter:
         except (Failed, WrongInput, Unsafe, OSError, ValueError, OverflowError, RecursionError, MemoryError) as error:
             self.refuse(message, error)
             return
-        sequence = message.get('seq')
-        self.send({'type': 'response', 'request_seq': sequence if isinstance(sequence, int) else 0, 'success': True, 'command': command, **({'body': body} if body is not None else {})})
+        self.send({'type': 'response', 'request_seq': numbered(message.get('seq')), 'success': True, 'command': command,
+                   **({'body': body} if body is not None else {})})
         waiting, self.then = self.then, []
         for one in waiting:
             try:
@@ -471,7 +478,8 @@ class Adapter:
             why = {BREAK: 'breakpoint', OPCODE: 'exception'}.get(stopped.breakpoints[0].kind, 'data breakpoint')
         text = 'the beginning of what is known' if stopped.why == BEGINNING else '; '.join(one.shown() for one in stopped.breakpoints)
         ids = [one.number for one in stopped.breakpoints]
-        self.event('stopped', reason=why, threadId=THREAD, allThreadsStopped=True, **({'description': text} if text else {}), **({'hitBreakpointIds': ids} if ids else {}))
+        self.event('stopped', reason=why, threadId=THREAD, allThreadsStopped=True, **({'description': text} if text else {}),
+                   **({'hitBreakpointIds': ids} if ids else {}))
 
     def moved(self, run: Callable[[], Stopped]) -> None:
         """Something that is done once the request is answered, and its end is told."""
@@ -515,8 +523,7 @@ class Adapter:
         call = calls[number - 1]
 
         def run() -> Stopped:
-            if not self.debugger.last_met([Place(call.address - 3 & 0xffff), Place(call.address - 1 & 0xffff)], lambda met: self.debugger.registers().SP == call.stack):
-                raise Wrong('its call is not in the past that is known')
+            self.debugger.back_to_call(call)
             self.debugger.timeline.step_to(())
             return self.debugger.stopped('step')
         self.moved(run)
@@ -530,7 +537,8 @@ class Adapter:
         found = []
         for place in places:
             self.targets.append(place.address)
-            found.append({'id': len(self.targets), 'label': message or f'${place.address:04X}', 'line': self.line_told(line), 'instructionPointerReference': f'0x{place.address:04X}'})
+            found.append({'id': len(self.targets), 'label': message or f'${place.address:04X}', 'line': self.line_told(line),
+                          'instructionPointerReference': f'0x{place.address:04X}'})
         return {'targets': found}
 
     def goto(self, given: Arguments) -> None:
@@ -565,21 +573,21 @@ class Adapter:
         number, label = before[-1]
         return [self.debugger.place(label)], f'bound to the label {label}: no lines are known, but labels', number
 
-    def replaced(self, key: str, command: str, given: Arguments, wanted: Iterable[tuple[Arguments, Callable[[], tuple]]]) -> list[dict]:
-        """Puts breakpoints in place of those that a request asked for last. Each is made of what a call answers: kind, stops, text, and what is told of it."""
+    def replaced(self, key: str, given: Arguments, make: Callable[[Arguments], tuple], wanted: Optional[list[Arguments]] = None) -> dict:
+        """Puts breakpoints in place of those that a request asked for last. `make` answers kind, stops and text of each, and what is told of it."""
         for number in self.owned.pop(key, []):
             self.debugger.breakpoints.pop(number, None)
         self.asked[key] = given.given
         owned, told = self.owned.setdefault(key, []), []
-        for one, make in wanted:
+        for one in given.parts('breakpoints') if wanted is None else wanted:
             try:
-                kind, stops, text, more = make()
+                kind, stops, text, more = make(one)
                 made = self.debugger.add(kind, stops, text, one.text('condition', ''), one.text('hitCondition', ''), one.text('logMessage', '') or None)
                 owned.append(made.number)
                 told.append({'id': made.number, 'verified': True, **more})
             except Failed as wrong:
                 told.append({'verified': False, 'message': printable(wrong)})
-        return told
+        return {'breakpoints': told}
 
     def set_breakpoints(self, given: Arguments) -> dict:
         source = given.part('source')
@@ -591,20 +599,20 @@ class Adapter:
             places, message, number = self.places_of(path, line)
             return BREAK, places, f'{Path(path).name}:{number}', {'line': self.line_told(number), 'instructionReference': f'0x{places[0].address:04X}',
                                                                   'source': self.source_told(path), **({'message': message} if message else {})}
-        return {'breakpoints': self.replaced(f'setBreakpoints {path}', 'setBreakpoints', given, [(one, lambda one=one: at(one)) for one in lines])}
+        return self.replaced(f'setBreakpoints {path}', given, at, lines)
 
     def set_function_breakpoints(self, given: Arguments) -> dict:
         def at(one: Arguments) -> tuple:
             name = one.text('name')
             place = self.debugger.place(name)
             return BREAK, [place], name, {'instructionReference': f'0x{place.address:04X}'}
-        return {'breakpoints': self.replaced('setFunctionBreakpoints', 'setFunctionBreakpoints', given, [(one, lambda one=one: at(one)) for one in given.parts('breakpoints')])}
+        return self.replaced('setFunctionBreakpoints', given, at)
 
     def set_instruction_breakpoints(self, given: Arguments) -> dict:
         def at(one: Arguments) -> tuple:
             address = one.place('instructionReference') & 0xffff
             return BREAK, [Place(address)], f'${address:04X}', {'instructionReference': f'0x{address:04X}'}
-        return {'breakpoints': self.replaced('setInstructionBreakpoints', 'setInstructionBreakpoints', given, [(one, lambda one=one: at(one)) for one in given.parts('breakpoints')])}
+        return self.replaced('setInstructionBreakpoints', given, at)
 
     def data_breakpoint_info(self, given: Arguments) -> dict:
         name, reference = given.text('name'), given.number('variablesReference', 0, 1 << 30, 0)
@@ -624,16 +632,16 @@ class Adapter:
             if not found or kind is None or found[1] > found[2]:
                 raise Wrong('this is no place in memory, or no kind of access')
             return kind, watch_stops(kind, int(found[1], 16), int(found[2], 16)), f'${found[1]}', {}
-        return {'breakpoints': self.replaced('setDataBreakpoints', 'setDataBreakpoints', given, [(one, lambda one=one: at(one)) for one in given.parts('breakpoints')])}
+        return self.replaced('setDataBreakpoints', given, at)
 
     def set_exception_breakpoints(self, given: Arguments) -> dict:
-        def at(name: str) -> tuple:
+        def at(one: Arguments) -> tuple:
+            name = one.text('name')
             if name not in FILTERS:
                 raise Wrong(f'{quoted(name)} is no filter')
             stops: list[Stop] = [Opcode(FILTERS[name][1])]
             return OPCODE, stops, FILTERS[name][0], {}
-        names = given.texts('filters')[:MOST_BREAKPOINTS]
-        return {'breakpoints': self.replaced('setExceptionBreakpoints', 'setExceptionBreakpoints', given, [(Arguments({}), lambda name=name: at(name)) for name in names])}
+        return self.replaced('setExceptionBreakpoints', given, at, [Arguments({'name': name}) for name in given.texts('filters')[:MOST_BREAKPOINTS]])
 
     def breakpoint_locations(self, given: Arguments) -> dict:
         path = given.part('source').text('path', '', MOST_PATH)
@@ -679,9 +687,10 @@ class Adapter:
     def scopes(self, given: Arguments) -> dict:
         given.number('frameId', 1, MOST_VARIABLES)
         function = self.debugger.function()
-        names = [('Locals', LOCALS)] * (function is not None) + [('Registers', REGISTERS), ('Flags', FLAGS), ('Hardware registers', HARDWARE), ('Globals', GLOBALS), ('Time', TIME)]
-        return {'scopes': [{'name': name, 'variablesReference': number, 'expensive': number == HARDWARE, **({'presentationHint': 'registers'} if number == REGISTERS else {}),
-                            **({'presentationHint': 'locals'} if number == LOCALS else {})} for name, number in names]}
+        names = [('Locals', LOCALS)] * (function is not None) + SCOPES
+        hints = {REGISTERS: 'registers', LOCALS: 'locals'}
+        return {'scopes': [{'name': name, 'variablesReference': number, 'expensive': number == HARDWARE,
+                            **({'presentationHint': hints[number]} if number in hints else {})} for name, number in names]}
 
     def variables(self, given: Arguments) -> dict:
         reference, first = given.number('variablesReference', 1, 1 << 30), given.number('start', 0, 1 << 30, 0)
@@ -696,8 +705,9 @@ class Adapter:
         registers, memory = self.debugger.registers(), self.debugger.memory
         if reference == REGISTERS:
             for name in (*WORD_REGISTERS, 'IME'):
-                yield {'name': name, 'value': f'${registers.value(name):04X}' if name != 'IME' else str(registers.IME), 'variablesReference': 0, 'evaluateName': name,
-                       **({'memoryReference': f'0x{registers.value(name):04X}'} if name not in ('AF', 'IME') else {})}
+                value = registers.value(name)
+                yield {'name': name, 'value': f'${value:04X}' if name != 'IME' else str(value), 'variablesReference': 0, 'evaluateName': name,
+                       **({'memoryReference': f'0x{value:04X}'} if name not in ('AF', 'IME') else {})}
         elif reference == FLAGS:
             for name, bit in FLAG_BITS.items():
                 yield {'name': name, 'value': str(registers.value('F') >> bit & 1), 'variablesReference': 0}
@@ -706,7 +716,8 @@ class Adapter:
             for address, name in NAMES.items():
                 value = data[address & 0xff]
                 text = decoded(name, value)
-                yield {'name': name, 'value': f'${value:02X}' + (f' ({text})' if text else ''), 'variablesReference': 0, 'evaluateName': name, 'memoryReference': f'0x{address:04X}'}
+                yield {'name': name, 'value': f'${value:02X}' + (f' ({text})' if text else ''), 'variablesReference': 0, 'evaluateName': name,
+                       'memoryReference': f'0x{address:04X}'}
         elif reference == GLOBALS:
             if self.debugger.variables.named:
                 for one in self.debugger.variables.named.values():
@@ -715,14 +726,16 @@ class Adapter:
                 for address in self.debugger.labels.in_order():
                     if address >= 0xc000:
                         for _, name in self.debugger.labels.at[address]:
-                            yield {'name': printable(name), 'value': f'${memory(address, 1)[0]:02X}', 'variablesReference': 0, 'evaluateName': f'[{name}]', 'memoryReference': f'0x{address:04X}'}
+                            yield {'name': printable(name), 'value': f'${memory(address, 1)[0]:02X}', 'variablesReference': 0, 'evaluateName': f'[{name}]',
+                                   'memoryReference': f'0x{address:04X}'}
         elif reference == LOCALS:
             function = self.debugger.function()
             for one in function.variables if function else []:
                 yield self.variable_told(one, one.name)
         elif reference == TIME:
             timeline = self.debugger.timeline
-            for name, value in (('frames played', timeline.frame()), ('inputs of the script', timeline.inputs()), ('place', timeline.now), ('end', timeline.end)):
+            places = ('frames played', timeline.frame()), ('inputs of the script', timeline.inputs()), ('place', timeline.now), ('end', timeline.end)
+            for name, value in places:
                 yield {'name': name, 'value': str(value), 'variablesReference': 0}
         else:
             kind, address = self.part_of(reference)
@@ -777,7 +790,8 @@ class Adapter:
         before = text[:max(given.number('column', 0, 1 << 24) - self.first_column, 0)]
         word = re.search(r'[\w.$-]*$', before)[0]
         names = [*(COMMANDS if before.strip() == word else ()), *self.debugger.labels.named, *self.debugger.variables.named]
-        return {'targets': [{'label': one, 'start': len(before) - len(word), 'length': len(word)} for one in dict.fromkeys(names) if word and one.startswith(word)][:100]}
+        found = [one for one in dict.fromkeys(names) if word and one.startswith(word)][:100]
+        return {'targets': [{'label': one, 'start': len(before) - len(word), 'length': len(word)} for one in found]}
 
     def loaded_sources(self, given: Arguments) -> dict:
         names = [self.source_path(name) for name in self.debugger.source.names()] or sorted(path for path, labels in self.assembled.files.items() if labels)
@@ -952,12 +966,13 @@ HANDLERS: dict[str, Callable[[Adapter, Arguments], Optional[dict]]] = {
     'setVariable': Adapter.set_variable, 'setExpression': Adapter.set_expression, 'readMemory': Adapter.read_memory, 'writeMemory': Adapter.write_memory,
     'disassemble': Adapter.disassemble, 'gbkeep/image': Adapter.image, 'gbkeep/press': Adapter.press}
 # what moves the machine, and so waits for its run to end
-MOVING = ('continue', 'next', 'stepIn', 'stepOut', 'stepBack', 'reverseContinue', 'restartFrame', 'goto', 'setVariable', 'setExpression', 'writeMemory', 'gbkeep/press')
+MOVING = ('continue', 'next', 'stepIn', 'stepOut', 'stepBack', 'reverseContinue', 'restartFrame', 'goto', 'setVariable', 'setExpression', 'writeMemory',
+          'gbkeep/press')
 
 
 def main(words: list[str]) -> None:
-    parser = Words(prog=name_of_tool(), usage='%(prog)s [--program GBKEEP]', description='Debugs a cartridge in an editor, by the Debug Adapter Protocol.', epilog=__doc__,
-                   formatter_class=argparse.RawDescriptionHelpFormatter)
+    parser = Words(prog=name_of_tool(), usage='%(prog)s [--program GBKEEP]', formatter_class=argparse.RawDescriptionHelpFormatter,
+                   description='Debugs a cartridge in an editor, by the Debug Adapter Protocol.', epilog=__doc__)
     parser.add_argument('--program', default=find_program(), metavar='GBKEEP', help='the program (default: %(default)s)')
     asked = parser.parse_args(words)
     if sys.stdin is None:

@@ -16,9 +16,10 @@ import signal
 import sys
 from collections.abc import Iterable, Iterator, Mapping, Sequence
 from pathlib import Path
-from typing import NoReturn, Optional
+from typing import NoReturn
 
 from . import memory_pictures
+from .c_variables import NOT_AVAILABLE
 from .debug_program import BYTE_REGISTERS, MOST_PLACES, WORD_REGISTERS, Access, Change, Opcode, Place, Program, Ran, Stop, Wrong
 from .debugger import (ACCESS, BREAK, CALLS, CHANGE, INTERRUPTED, LIMIT, MOST_FRAMES as MOST_CALLS, READ, RESTARTS, STACK_WORDS, WRITE, Debugger, Stopped,
                        watch_stops)
@@ -29,7 +30,7 @@ from .memory_pictures import MAP_BYTES, MAPS, OAM, OAM_BYTES, REGISTER_BYTES, RE
 from .new_files import Unsafe, new_file
 from .pictures import PICTURE_HEADS, PNG_HEAD, png_of
 from .script import moves_to_play
-from .symbols import SWITCHED, Labels, Source, found_labels, found_source, like, quoted
+from .symbols import SWITCHED, found_labels, found_source, like, quoted
 from .tools import Failed, Words, name_of_tool, run_tool, say
 
 HELP = '''\
@@ -132,8 +133,9 @@ PROMPT_STEPS = (1, 10_000_000)
 # a line that nobody types, and the names that are given to places in time
 MOST_LINE, MOST_MARKS = 1 << 16, 1000
 # what moves the machine, so that the prompt shows where it is
-MOVES = ('step', 'until', 'until-op', 'until-write', 'until-read', 'until-change', 'profile', 'frame', 'frames', 'restore', 'back', 'power', 'set', 'set-register', 'over', 'out',
-         'continue', 'next', 'finish', 'step-back', 'next-back', 'continue-back', 'finish-back', 'last-write', 'last-read', 'last-change', 'goto', 'press')
+MOVES = ('step', 'until', 'until-op', 'until-write', 'until-read', 'until-change', 'profile', 'frame', 'frames', 'restore', 'back', 'power', 'set',
+         'set-register', 'over', 'out', 'continue', 'next', 'finish', 'step-back', 'next-back', 'continue-back', 'finish-back', 'last-write', 'last-read',
+         'last-change', 'goto', 'press')
 WATCHES = (READ, WRITE, ACCESS, CHANGE)
 # what may stand behind a breakpoint's place
 OPTION = re.compile(r'(?:^|(?<=\s))(if|hits|log)(?=\s|$)')
@@ -613,7 +615,8 @@ class Session:
         if function is None:
             raise Wrong('it is in no function of C that is known')
         variables, memory = self.debugger.variables, self.debugger.memory
-        return [f'{printable(one.name)} = ' + ('not available' if one.address is None else printable(variables.shown(one.type, one.address, memory))) for one in function.variables]
+        return [f'{printable(one.name)} = ' + (NOT_AVAILABLE if one.address is None else printable(variables.shown(one.type, one.address, memory)))
+                for one in function.variables]
 
     def do_calls(self, words):
         few(words, 0, 0)
@@ -790,8 +793,8 @@ def done(session, lines: Iterable[str], place):
 
 
 def asked_of(words: list[str]) -> argparse.Namespace:
-    parser = Words(prog=name_of_tool(), usage='%(prog)s [--save SAVE] [--script SCRIPT] [--do LINE].. [--program GBKEEP] CART [SYM]', description='Looks inside a cartridge or a game.',
-                   epilog=f'Lines:\n{HELP}\n\n{OWN_HELP}', formatter_class=argparse.RawDescriptionHelpFormatter)
+    parser = Words(prog=name_of_tool(), usage='%(prog)s [--save SAVE] [--script SCRIPT] [--do LINE].. [--program GBKEEP] CART [SYM]',
+                   description='Looks inside a cartridge or a game.', epilog=f'Lines:\n{HELP}\n\n{OWN_HELP}', formatter_class=argparse.RawDescriptionHelpFormatter)
     parser.add_argument('--save', metavar='SAVE', help='begins with the game in SAVE, which keeps nothing of this')
     parser.add_argument('--script', metavar='SCRIPT', help='a script or a recording, whose inputs go on while it runs')
     parser.add_argument('--do', '-c', action='append', metavar='LINE', help='does this line, and ends; may be given again')

@@ -41,8 +41,9 @@ class Breakpoint:
     hits: int = 0
 
     def shown(self) -> str:
-        parts = [f'{self.number}: {self.kind} {self.text}', f'if {self.condition.text}' if self.condition else '', f'hits {self.hit_text}' if self.hit_text else '',
-                 f'log {printable(self.message)}' if self.message is not None else '', f'; met {self.hits} times' if self.hits else '']
+        parts = [f'{self.number}: {self.kind} {self.text}', f'if {self.condition.text}' if self.condition else '',
+                 f'hits {self.hit_text}' if self.hit_text else '', f'log {printable(self.message)}' if self.message is not None else '',
+                 f'; met {self.hits} times' if self.hits else '']
         return ' '.join(part for part in parts if part)
 
 
@@ -218,8 +219,8 @@ class Debugger:
             raise Wrong(f'there are {MOST_BREAKPOINTS:,} breakpoints, and no more are taken')
         if message is not None and len(message) > MOST_MESSAGE:
             raise Wrong(f'a message has more than {MOST_MESSAGE} characters')
-        one = Breakpoint(self.last_number + 1, kind, tuple(stops), printable(text), Expression.of(condition) if condition else None, hit_wanted(hits) if hits else None,
-                         printable(hits), message)
+        one = Breakpoint(self.last_number + 1, kind, tuple(stops), printable(text), Expression.of(condition) if condition else None,
+                         hit_wanted(hits) if hits else None, printable(hits), message)
         self.last_number = one.number
         self.breakpoints[one.number] = one
         return one
@@ -337,8 +338,8 @@ class Debugger:
         return self.registers().SP - stack & 0xffff < 0x8000
 
     def calls(self) -> Iterator[Call]:
-        """The calls that are not left, the last one first: words on the stack that stand behind a CALL or an RST. Whatever else was pushed may look so, too: sure
-        is one whose CALL leads to the label that stands before where it is called to."""
+        """The calls that are not left, the last one first: words on the stack that stand behind a CALL or an RST. Whatever else was pushed may look so,
+        too: sure is one whose CALL leads to the label that stands before where it is called to."""
         registers = self.registers()
         inner, stack = registers.PC, registers.SP
         words = self.memory(stack, 2 * STACK_WORDS)
@@ -383,7 +384,8 @@ class Debugger:
                     line = self.line_at(ran.address)
                 elif first is None or self.is_left(stack + 2):
                     return self.stopped(STEP)
-            if line and (line[2] == 0 and (first is None or line[:2] != first[:2] or here.SP != stack) or first and line[:2] != first[:2] and self.is_left(stack + 1)):
+            is_other = line and (first is None or line[:2] != first[:2])
+            if line and line[2] == 0 and (is_other or here.SP != stack) or is_other and first and self.is_left(stack + 1):
                 return self.stopped(STEP)
             if not self.goes_on():
                 return self.stopped(INTERRUPTED)
@@ -453,13 +455,18 @@ class Debugger:
                 return self.stopped(INTERRUPTED)
         return self.stopped(LIMIT)
 
+    def back_to_call(self, call: Call) -> None:
+        """Goes back to where a call was made."""
+        places = [Place(call.address - 3 & 0xffff), Place(call.address - 1 & 0xffff)]
+        if not self.last_met(places, lambda met: self.registers().SP == call.stack):
+            raise Wrong('its call is not in the past that is known')
+
     def finish_back(self) -> Stopped:
         """Goes back to the call that it is in."""
         call = next(self.calls(), None)
         if call is None:
             raise Wrong(f'no word of the {STACK_WORDS} on the stack stands behind a CALL or an RST')
-        if not self.last_met([Place(call.address - 3 & 0xffff), Place(call.address - 1 & 0xffff)], lambda met: self.registers().SP == call.stack):
-            raise Wrong('its call is not in the past that is known')
+        self.back_to_call(call)
         return self.stopped(STEP)
 
 

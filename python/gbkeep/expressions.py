@@ -19,7 +19,8 @@ from .symbols import quoted
 MOST_TEXT, MOST_DEPTH = 1000, 40
 TOKEN = re.compile(r'\s*(0[xX][0-9a-fA-F]+|\$[0-9a-fA-F]+|[0-9]+|[A-Za-z_.][A-Za-z_0-9.@#]*|->|<<|>>|<=|>=|==|!=|&&|\|\||[-+*/%&|^~!<>()\[\].])')
 REGISTERS = (*BYTE_REGISTERS, *WORD_REGISTERS, 'IME')
-BINARY = {'||': 1, '&&': 2, '|': 3, '^': 4, '&': 5, '==': 6, '!=': 6, '<': 7, '<=': 7, '>': 7, '>=': 7, '<<': 8, '>>': 8, '+': 9, '-': 9, '*': 10, '/': 10, '%': 10}
+BINARY = {'||': 1, '&&': 2, '|': 3, '^': 4, '&': 5, '==': 6, '!=': 6, '<': 7, '<=': 7, '>': 7, '>=': 7, '<<': 8, '>>': 8, '+': 9, '-': 9, '*': 10, '/': 10,
+          '%': 10}
 SUMS = {'|': operator.or_, '^': operator.xor, '&': operator.and_, '==': operator.eq, '!=': operator.ne, '<': operator.lt, '<=': operator.le, '>': operator.gt,
         '>=': operator.ge, '+': operator.add, '-': operator.sub, '*': operator.mul}
 

@@ -10,7 +10,8 @@ ADDRESSES = {name: address for address, name in NAMES.items()}
 INTERRUPTS = ((0, 'VBlank'), (1, 'STAT'), (2, 'timer'), (3, 'serial'), (4, 'joypad'))
 # bits that are told where they are set
 BITS = {'IF': INTERRUPTS, 'IE': INTERRUPTS, 'SC': ((7, 'transfer'), (0, 'own clock')),
-        'LCDC': ((7, 'display'), (6, 'window map 9C00'), (5, 'window'), (4, 'tiles 8000'), (3, 'background map 9C00'), (2, 'objects 8x16'), (1, 'objects'), (0, 'background')),
+        'LCDC': ((7, 'display'), (6, 'window map 9C00'), (5, 'window'), (4, 'tiles 8000'), (3, 'background map 9C00'), (2, 'objects 8x16'), (1, 'objects'),
+                 (0, 'background')),
         'STAT': ((6, 'LYC interrupt'), (5, 'mode 2 interrupt'), (4, 'mode 1 interrupt'), (3, 'mode 0 interrupt'), (2, 'LY = LYC'))}
 CLOCKS = (4_096, 262_144, 65_536, 16_384)
 BUTTONS = (('right', 'left', 'up', 'down'), ('A', 'B', 'select', 'start'))

@@ -28,7 +28,8 @@ MAP_HEAD = re.compile(r'ASxxxx Linker|\bGlobal\s+Global Defined In Module\b')
 OF_C = re.compile(r'(G|F|L)([^$]{0,%d})\$([^$]{1,%d})\$[^$]{1,32}\$[^$]{1,32}' % (MOST_LABEL, MOST_LABEL))
 # wla-dx: the number of a source with its name, and a line of a source at a place; of other versions, where a line has no place in the ROM, nothing is known
 WLA_FILE = re.compile(r'([0-9a-fA-F]{1,8}(?::[0-9a-fA-F]{1,8})?)\s+(?:[0-9a-fA-F]{8}\s+)?(\S.{0,%d})' % MOST_LABEL)
-WLA_LINE = re.compile(r'(?:[0-9a-fA-F]{8}\s+)?([0-9a-fA-F]{1,4}):([0-9a-fA-F]{4})\s+(?:[0-9a-fA-F]{4}\s+)?([0-9a-fA-F]{1,8}(?::[0-9a-fA-F]{1,8})?):([0-9a-fA-F]{1,8})')
+WLA_LINE = re.compile(r'(?:[0-9a-fA-F]{8}\s+)?([0-9a-fA-F]{1,4}):([0-9a-fA-F]{4})\s+(?:[0-9a-fA-F]{4}\s+)?'
+                      r'([0-9a-fA-F]{1,8}(?::[0-9a-fA-F]{1,8})?):([0-9a-fA-F]{1,8})')
 # where memory begins that a label of one part does not reach out of
 PARTS = (0, 0x4000, 0x8000, 0xa000, 0xc000, 0xe000, 0xfe00, 0xff00, 0xff80)
 # C$FILE$LINE$LEVEL$BLOCK, and its address
@@ -248,7 +249,8 @@ class Source:
 
     def lines(self, address: int, bank: Optional[int] = None) -> list[str]:
         """The lines of source that begin at an address; with the bank that is mapped there, its own alone."""
-        return [self.shown(name, number) + (f' ; bank {of:02X}' if of > 1 else '') for of, name, number in self.at.get(address, []) if is_seen(of, address, bank)]
+        return [self.shown(name, number) + (f' ; bank {of:02X}' if of > 1 else '') for of, name, number in self.at.get(address, [])
+                if is_seen(of, address, bank)]
 
     def shown(self, name: str, number: int) -> str:
         """A line of source with its text."""

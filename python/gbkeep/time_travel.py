@@ -4,6 +4,7 @@ A run is the same every time. So a place in time is the nearest machine that is 
 its tick: a step has one, a line such as `set` has one, and a frame that is played as a whole has `FRAME_TICKS`, of which its steps are the first once
 somebody looks into it. What is done in the past takes the place of what was done behind it, where it is something else."""
 import bisect
+import collections
 from collections.abc import Callable, Iterable, Iterator, Sequence
 from dataclasses import dataclass, replace
 from typing import Optional
@@ -188,8 +189,23 @@ class Timeline:
         return Ran(made, 0)
 
     def profile(self, count: int, places: Sequence[Place] = ()) -> tuple[str, int, dict[tuple[int, int], int]]:
-        """What `profile` of the program does and tells. Its steps are counted behind it, by going there again."""
+        """What `profile` of the program does and tells. The script goes on meanwhile."""
         self.begin()
+        elsewhere, cycles = 0, collections.Counter()
+        while True:
+            room = self.room()
+            part, here = count if room is None else min(count, room), self.now
+            answer, more, others = self.profile_of_frame(part, places)
+            elsewhere += more
+            cycles.update(others)
+            count -= part
+            if answer.startswith('stopped ') or count == 0:
+                return answer, elsewhere, dict(cycles)
+            if self.now > here and any(self.debuggee.is_at(one) for one in places):
+                return answer.replace('limit', 'stopped'), elsewhere, dict(cycles)
+
+    def profile_of_frame(self, count: int, places: Sequence[Place]) -> tuple[str, int, dict[tuple[int, int], int]]:
+        """The same within a frame. Its steps are counted behind it, by going there again."""
         self.keep(always=True)
         here = self.now
         self.debuggee.collect()
@@ -455,7 +471,7 @@ class Timeline:
         self.debuggee.told()
 
     def reached(self, tick: int) -> int:
-        """The place in time that a tick means: none lies within the end of a frame, and what lies within a frame that was played as a whole is one of its steps."""
+        """The place in time that a tick means: none lies within the end of a frame, and within a frame that was played as a whole it is one of its steps."""
         move = self.move_at(tick)
         if move and move.kind == FRAMES and (tick - move.start) % FRAME_TICKS:
             self.open(move.start + (tick - move.start) // FRAME_TICKS * FRAME_TICKS)
@@ -623,7 +639,9 @@ def is_done_again(known: Move, move: Move) -> bool:
     """Whether a move is what is known to have been done there."""
     if (known.kind, known.value, known.line, known.data, known.is_input) != (move.kind, move.value, move.line, move.data, move.is_input):
         return False
-    return move.end <= known.end and (move.start - known.start) % FRAME_TICKS == 0 if move.kind == FRAMES else (known.start, known.ticks) == (move.start, move.ticks)
+    if move.kind == FRAMES:
+        return move.end <= known.end and (move.start - known.start) % FRAME_TICKS == 0
+    return (known.start, known.ticks) == (move.start, move.ticks)
 
 
 class Ended(Exception):
