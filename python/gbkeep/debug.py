@@ -18,7 +18,7 @@ from collections.abc import Iterable, Iterator, Mapping, Sequence
 from pathlib import Path
 from typing import NoReturn
 
-from . import memory_pictures
+from . import memory_pictures, value_origins
 from .c_variables import NOT_AVAILABLE
 from .debug_program import BYTE_REGISTERS, MOST_PLACES, WORD_REGISTERS, Access, Change, Opcode, Place, Program, Ran, Stop, Wrong
 from .debugger import (ACCESS, BREAK, CALLS, CHANGE, INTERRUPTED, LIMIT, MOST_FRAMES as MOST_CALLS, READ, RESTARTS, STACK_WORDS, WRITE, Debugger, Stopped,
@@ -87,6 +87,8 @@ OWN_HELP = '''\
                       to before the last step that wrote ADDR, or ADDR to LAST
   last-read ADDR [LAST], last-change ADDR
                       the same of reads; to behind the last step that changed it
+  why ADDR            the writes that led to the byte at ADDR, the last one first: from it
+                      through registers to where its value came from
   goto N              to where frame N of those that were played begins
   goto end            to the end of what was done
   mark [NAME]         names this place in time for goto NAME; lists the names
@@ -135,7 +137,7 @@ MOST_LINE, MOST_MARKS = 1 << 16, 1000
 # what moves the machine, so that the prompt shows where it is
 MOVES = ('step', 'until', 'until-op', 'until-write', 'until-read', 'until-change', 'profile', 'frame', 'frames', 'restore', 'back', 'power', 'set',
          'set-register', 'over', 'out', 'continue', 'next', 'finish', 'step-back', 'next-back', 'continue-back', 'finish-back', 'last-write', 'last-read',
-         'last-change', 'goto', 'press')
+         'last-change', 'why', 'goto', 'press')
 WATCHES = (READ, WRITE, ACCESS, CHANGE)
 # what may stand behind a breakpoint's place
 OPTION = re.compile(r'(?:^|(?<=\s))(if|hits|log)(?=\s|$)')
@@ -575,6 +577,12 @@ class Session:
 
     def do_last_change(self, words):
         return self.last([Change(self.address(few(words, 1, 1)[0]))], 'changed')
+
+    def do_why(self, words):
+        address, here = self.address(few(words, 1, 1)[0]), self.timeline.now
+        for at, what in value_origins.links(self.debugger, address):
+            yield ' ; '.join([f'{self.debuggee.listing(at, 1)[0]} ; {what}', *self.debugger.shown_place(at)])
+        self.timeline.goto(here)
 
     def do_goto(self, words):
         word = few(words, 1, 1)[0]

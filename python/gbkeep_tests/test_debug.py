@@ -14,6 +14,7 @@ import sys
 import time
 from pathlib import Path
 
+from gbkeep import debug_program
 from gbkeep_tests import support
 from gbkeep_tests.support import CART, DEMO, expect, needs_terminal, tool_words, until, written_png, wrong
 
@@ -483,6 +484,43 @@ def test_scripts(room):
     for lines in (['break begin_round', 'continue', 'continue', 'delete', 'break forever if [$C007] > 200', f'until {24 * 17_556} $FFFF', 'goto 54', 'digest'], ['until 2000000 $FFFF', 'goto 54', 'digest']):
         status, out, err = room.tool('--script', script, CART, *do(*lines))
         expect('the machine at its end', (status, out.splitlines()[-1], err), (0, done, ''))
+
+
+def test_origins(room):
+    """Where a value came from: through registers, other bytes and numbers, and what is not known; it stands where it was."""
+    status, out, err = room.tool(CART, *do('until walk', 'why $C008', 'why $C007', 'registers', 'why $0150', 'why $FFF3', 'why $D123'))
+    expect('origins', (status, out.splitlines()[1:], err), (0, [
+        '02B7 EA08C0 LD (C008),A ; [$C008] became A ; count_time+12', '02B6 3C     INC A ; A became A ; count_time+11', '02B3 FA08C0 LD A,(C008) ; A became [$C008] ; count_time+8',
+        '01F3 EA08C0 LD (C008),A ; [$C008] became A ; begin_round+4', '01EF AF     XOR A,A ; A became the number $00 ; begin_round',
+        '01F8 EA07C0 LD (C007),A ; [$C007] became A ; begin_round+9', '01F6 3E60   LD A,60 ; A became the number $60 ; begin_round+7',
+        'A=60 F=00 B=00 C=3C D=99 E=10 H=A0 L=01 SP=FFF2 PC=020F IME=0', '020F 2101C0 LD HL,C001 ; $0150 is of ROM ; walk',
+        '01D9 C40F02 CALL NZ,020F ; [$FFF3] became a return address, or a copy to OAM ; vblank+17', '020F 2101C0 LD HL,C001 ; [$D123] was not written in the past that is known ; walk'], ''))
+
+
+def test_slices(room):
+    """A run stops at the same steps, in however many parts it is made."""
+    program = debug_program.Program(room.program, CART)
+    try:
+        debuggee = debug_program.Debuggee(program)
+        debuggee.pass_steps(30_000)
+        debuggee.keep(0)
+        for stops in ([debug_program.Place(0x20f), debug_program.Place(0x1c8, 0)], [debug_program.Access(True, 0xc000, 0xc0ff)], [debug_program.Access(False, 0xff00, 0xff7f), debug_program.Access(True, 0xff80, 0xfffe)],
+                      [debug_program.Change(0xff44), debug_program.Opcode(0xc9)], [debug_program.Place(0x354), debug_program.Access(False, 0xa000, 0xa0ff), debug_program.Change(0xc008)]):
+            found = []
+            for size in (100_000, 1_000, 37, 1):
+                debuggee.back(0)
+                debuggee.pass_steps(7_300)
+                total, met = 0, []
+                while len(met) < 12 and total < 2_000:
+                    debuggee.slice = size
+                    ran = debuggee.run(2_000 - total, stops, lambda steps: True)
+                    total += ran.steps
+                    met.append((total, frozenset(ran.met)))
+                found.append(met)
+            expect(f'where it stops: {stops}', [one == found[0] for one in found], [True] * 4)
+            expect('it does', len(found[0]) > 1, True)
+    finally:
+        program.kill()
 
 
 def test_history(room):
