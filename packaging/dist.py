@@ -137,7 +137,7 @@ class Release:
 
     def documents(self, folder):
         """The pages with what they lead to, and the examples, as git has them."""
-        names = said('git', 'ls-files', 'README.md', 'docs', 'examples').splitlines()
+        names = said('git', 'ls-files', 'README.md', 'docs', 'editors', 'examples').splitlines()
         found = [installed.File('gbkeep', f'{folder}/{name}', Path(name).read_bytes(), bool(os.stat(name).st_mode & 0o100)) for name in names]
         return [*found, installed.File('gbkeep', f'{folder}/BUILT', self.about.encode())]
 
