@@ -25,7 +25,7 @@ from gbkeep_tests.support import TOP, expect
 from scripts import library
 
 COMPILER = os.environ.get('CC', 'cc')
-CLONED = ('README.md', 'Makefile', 'crates.txt', 'completions', 'docs', 'examples', 'library', 'packaging', 'players', 'python', 'scripts',
+CLONED = ('README.md', 'Makefile', 'crates.txt', 'completions', 'docs', 'editors', 'examples', 'library', 'packaging', 'players', 'python', 'scripts',
           'crates/command_line/src/words.rt')
 # what the gate has set
 SET = {'PYTHONPATH', 'GBKEEP', 'GBKEEP_LIBRARY', 'MAKEFLAGS', 'MAKELEVEL', 'MFLAGS', 'PREFIX', 'LIBDIR', 'DESTDIR', 'ARCH', 'PYTHONDONTWRITEBYTECODE'}

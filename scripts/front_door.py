@@ -208,7 +208,7 @@ def served(room, line):
 
 def clone(room, program):
     """What of the clone the blocks need, with this program at bin/gbkeep."""
-    for path in ('README.md', 'Makefile', 'crates.txt', 'examples', 'players', 'python', 'library', 'docs', 'completions', 'packaging', 'scripts', 'web'):
+    for path in ('README.md', 'Makefile', 'crates.txt', 'examples', 'players', 'python', 'library', 'docs', 'editors', 'completions', 'packaging', 'scripts', 'web'):
         copy = shutil.copytree if os.path.isdir(path) else shutil.copy
         copy(path, os.path.join(room, path))
     os.makedirs(os.path.join(room, 'bin'))
