@@ -404,7 +404,7 @@ class Adapter:
             raise
         for warning in warnings + more:
             self.output(f'{printable(warning)}\n')
-        self.debugger, self.session, self.launched = debugger, Session(debugger), given
+        self.debugger, self.session, self.launched = debugger, Session(debugger, moves), given
         debugger.say = lambda text: self.output(f'{text}\n', 'stdout')
         debugger.goes_on = self.goes_on
         self.assembled = Assembled({}, {}) if source.at else Assembled.below(Path(cart).resolve().parent, labels.named)

@@ -18,7 +18,7 @@ from collections.abc import Iterable, Iterator, Mapping, Sequence
 from pathlib import Path
 from typing import NoReturn
 
-from . import memory_pictures, value_origins
+from . import divergence, memory_pictures, value_origins
 from .c_variables import NOT_AVAILABLE
 from .debug_program import BYTE_REGISTERS, MOST_PLACES, WORD_REGISTERS, Access, Change, Opcode, Place, Program, Ran, Stop, Wrong
 from .debugger import (ACCESS, BREAK, CALLS, CHANGE, INTERRUPTED, LIMIT, MOST_FRAMES as MOST_CALLS, READ, RESTARTS, STACK_WORDS, WRITE, Debugger, Stopped,
@@ -89,6 +89,10 @@ OWN_HELP = '''\
                       the same of reads; to behind the last step that changed it
   why ADDR            the writes that led to the byte at ADDR, the last one first: from it
                       through registers to where its value came from
+  diverge FILE [FRAMES]
+                      plays this cartridge and script from power-on beside FILE, another
+                      ROM, a script or a recording (3,600 frames): the first step behind
+                      which registers differ, or the frame behind which memory does
   goto N              to where frame N of those that were played begins
   goto end            to the end of what was done
   mark [NAME]         names this place in time for goto NAME; lists the names
@@ -210,8 +214,8 @@ def record_of(path: PathLike, lines: Mapping[int, int], functions: Mapping[str, 
 class Session:
     """What the lines of a prompt do: each answers the lines that are shown."""
 
-    def __init__(self, debugger: Debugger, at_prompt: bool = False):
-        self.debugger, self.at_prompt = debugger, at_prompt
+    def __init__(self, debugger: Debugger, script: Sequence[tuple] = (), at_prompt: bool = False):
+        self.debugger, self.script, self.at_prompt = debugger, script, at_prompt
         self.timeline, self.debuggee, self.labels, self.source = debugger.timeline, debugger.debuggee, debugger.labels, debugger.source
         self.read = [*debugger.program.read, *(str(one.path) for one in (self.labels, self.source) if one.path)]
         # whether Ctrl-C was pressed while a line is done
@@ -584,6 +588,26 @@ class Session:
             yield ' ; '.join([f'{self.debuggee.listing(at, 1)[0]} ; {what}', *self.debugger.shown_place(at)])
         self.timeline.goto(here)
 
+    def do_diverge(self, words):
+        name, most = (*few(words, 1, 2), str(divergence.MOST_FRAMES))[:2]
+        most, cart = count_of(most, (1, MOST_FRAMES)), self.debugger.cart
+        is_rom = Path(name).suffix in ('.gb', '.gbc')
+        other = self.script if is_rom else list(moves_to_play(cart, name))
+        program = self.debuggee.program.process.args[0]
+        programs = []
+        try:
+            for one in (cart, name if is_rom else cart):
+                programs.append(Program(program, one))
+            found = divergence.parted((programs[0], programs[1]), (self.script, other), most, self.debugger.goes_on)
+            if found is None:
+                return ['interrupted' if self.interrupted else f'they are the same for {most:,} frames']
+            where = f'frame {found.frame}' + (f', step {found.step}' if found.step is not None else '')
+            return [f'they differ behind {where}: {found.words}', *(f'{which} {registers.PC:04X}' + ''.join(f' ; {one}' for one in self.debugger.shown_place(registers.PC))
+                                                                   for which, registers in (('this one at', found.first), ('the other at', found.second)))]
+        finally:
+            for one in programs:
+                one.kill()
+
     def do_goto(self, words):
         word = few(words, 1, 1)[0]
         tick = self.timeline.end if word == 'end' else self.marks.get(word)
@@ -823,7 +847,7 @@ def main(words: list[str]) -> None:
         program = Program(asked.program, asked.cart, asked.save)
         if program.resumed:
             print(program.resumed, flush=True)
-        session = Session(Debugger(program, asked.cart, labels, source, script))
+        session = Session(Debugger(program, asked.cart, labels, source, script), script)
         session.debugger.goes_on = lambda: not session.interrupted
         session.debugger.say = lambda text: print(text, flush=True)
         if asked.do:

@@ -497,6 +497,21 @@ def test_origins(room):
         '01D9 C40F02 CALL NZ,020F ; [$FFF3] became a return address, or a copy to OAM ; vblank+17', '020F 2101C0 LD HL,C001 ; [$D123] was not written in the past that is known ; walk'], ''))
 
 
+def test_divergence(room):
+    """The first step behind which two scripts, or two ROMs, lead to other registers."""
+    scripts = [room.write(f'{name}.script', text) for name, text in (('none', 'frames 00 9\n'), ('start', 'frames 00 4\nframes 80 5\n'))]
+    rom = bytearray(CART.read_bytes())
+    rom[0x1fc] ^= 1
+    other = room.write('other.gb', bytes(rom))
+    status, out, err = room.tool('--script', scripts[0], CART, *do('digest', f'diverge {scripts[0]} 9', f'diverge {scripts[1]} 9', f'diverge {other} 9', 'digest'))
+    shown = out.splitlines()
+    expect('where they part', (status, shown[0] == shown[-1], shown[1], shown[2].startswith('they differ behind frame 4, step '), shown[5].startswith('they differ behind frame 2, step '), shown[5].endswith(': A is 50 and 51'),
+                               shown[6:8], err), (0, True, 'they are the same for 9 frames', True, True, True, ['this one at 01FD ; begin_round+14', 'the other at 01FD ; begin_round+14'], ''))
+    for line, why in (('diverge', 'takes 1 to 2'), ('diverge /none', 'No such file'), ('diverge /none.gb', 'file failed'), (f'diverge {other} 0', 'no number')):
+        status, out, err = room.tool(CART, *do(line))
+        expect(f'the error of {line!r}', (status, why in err, err.count('\n')), (1, True, 1))
+
+
 def test_slices(room):
     """A run stops at the same steps, in however many parts it is made."""
     program = debug_program.Program(room.program, CART)
