@@ -508,8 +508,8 @@ class Adapter:
         self.moved(self.debugger.finish)
 
     def step_back(self, given: Arguments) -> None:
-        by_line = self.is_by_line(given)
-        self.moved(lambda: self.debugger.line_back() if by_line else self.debugger.step_back())
+        by_instruction = given.text('granularity', 'statement') == 'instruction'
+        self.moved(lambda: self.debugger.step_back() if by_instruction else self.debugger.line_back())
 
     def reverse_continue(self, given: Arguments) -> None:
         self.moved(self.debugger.run_back)

@@ -67,7 +67,12 @@ def has_all(known: object, what: str, value: dict, properties: dict, required: l
             wrong(f'{what} has a {name}, which the protocol does not know')
 
 
-def fits_class(known: object, value: dict, kind: type) -> None:
+def fits_class(known: object, value: object, kind: type) -> None:
+    if hasattr(kind, 'VALID_VALUES'):
+        expect(f'a value of {kind.__name__}: {value!r}', value in kind.VALID_VALUES, True)
+        return
+    if not isinstance(value, dict):
+        wrong(f'{value!r:.200} is no {kind.__name__}')
     parameters = inspect.signature(kind.__init__).parameters.values()
     required = [one.name for one in parameters if one.default is inspect.Parameter.empty and one.kind is one.POSITIONAL_OR_KEYWORD and one.name not in ('self', 'seq')]
     has_all(known, kind.__name__, value, kind.__props__, [one for one in required if one in kind.__props__])
@@ -203,7 +208,7 @@ def test_runs(room):
     expect('an instruction', [one['verified'] for one in place], [True, False])
     expect('it is met', (client.runs('continue'), client.name()), ('breakpoint', 'count_time'))
     expect('over a call', (client.runs('stepOut'), client.name()), ('step', 'vblank+13'))
-    expect('back over it', (client.runs('stepBack'), client.name()), ('step', 'vblank+12'))
+    expect('back over it', (client.runs('stepBack'), client.name()), ('step', 'vblank+10'))
     client.runs('stepIn')
     info = client.ask('dataBreakpointInfo', name='[$C008]')
     expect('data', info['dataId'], 'C008-C008')
