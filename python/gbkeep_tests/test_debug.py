@@ -19,7 +19,7 @@ from gbkeep_tests import support
 from gbkeep_tests.support import CART, DEMO, expect, needs_terminal, tool_words, until, written_png, wrong
 
 # how long an answer may take
-SECONDS = 200
+SECONDS = 60
 # in the demo no jump leads there
 NOWHERE = '0100'
 # as RGBDS writes it, with what other programs add; the second label at 0154 is in another bank
@@ -463,7 +463,7 @@ def test_time(room):
         'stopped 020F ; walk', 'stopped 02AB ; count_time', 'stopped 01D2 ; vblank+10', 'beginning 0100'])
     expect('the marks', shown[-1], 'there')
     # frames as a whole, and into one of them
-    status, out, err = room.tool(CART, *do('frames 00 30', 'digest', 'frames 80 4', 'digest', 'goto 30', 'digest', 'step-back', 'step', 'digest', 'goto end', 'digest', 'goto 3', 'frames 00 27', 'digest', 'goto 31'))
+    status, out, err = room.tool(CART, *do('frames 00 30', 'digest', 'frames 80 4', 'digest', 'goto 30', 'digest', 'step-back', 'step', 'digest', 'goto end', 'digest', 'goto 3', 'frames 00 27', 'digest'))
     digests = [line for line in out.splitlines() if line.startswith('digest')]
     expect('frames', (status, digests[0] == digests[2] == digests[5], digests[1] == digests[4], err), (0, True, True, ''))
 
