@@ -17,7 +17,7 @@ from scripts.second_machine import feature_roms
 TOP = Path(__file__).resolve().parent.parent
 OF_EXAMPLES = ('examples/demo/demo.gb', 'examples/test_roms/prints.gb', 'examples/test_roms/passes.gb')
 FEATURES = 8
-MOVES = 24
+MOVES = 14
 BUTTONS = (0, 1, 0x10, 0x80)
 
 

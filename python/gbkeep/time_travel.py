@@ -21,12 +21,12 @@ MOST_MOVES = 1 << 20
 NEAR = 1 << 10
 # as many frames of a script are played as a whole, where none of their steps meets a stop
 FRAMES_AT_ONCE = 16
-STEPS, FRAMES, LINE, PRESS, END = 'steps', 'frames', 'line', 'press', 'end'
+STEPS, FRAMES, LINE, HOLD, PRESS, END = 'steps', 'frames', 'line', 'hold', 'press', 'end'
 
 
 @dataclass(frozen=True)
 class Move:
-    """Something that was done: steps, frames as a whole, a line with its bytes, buttons that a frame begins with, or the end of a frame."""
+    """Something that was done: steps, frames as a whole, a line with its bytes, buttons alone, buttons that a frame begins with, or the end of a frame."""
     kind: str
     start: int
     ticks: int
@@ -114,8 +114,8 @@ class Timeline:
             return None
         at = bisect.bisect_left(self.starts, self.now) - 1
         while at >= 0 and self.moves[at].kind not in (END, FRAMES):
-            if self.moves[at].kind == PRESS and self.moves[at].is_input:
-                return self.moves[at]
+            if self.moves[at].kind == PRESS:
+                return self.moves[at] if self.moves[at].is_input else None
             at -= 1
         return None
 
@@ -152,7 +152,7 @@ class Timeline:
         """Presses buttons, which stay so."""
         self.begin()
         self.debuggee.press(buttons)
-        self.add(Move(PRESS, self.now, 1, buttons))
+        self.add(Move(HOLD, self.now, 1, buttons))
 
     def frames(self, buttons: int, count: int, is_input: bool = False) -> str:
         """So many frames as a whole."""
@@ -428,7 +428,7 @@ class Timeline:
             self.debuggee.pass_steps(ticks)
         elif move.kind == FRAMES:
             self.debuggee.give(f'frames {move.value:02X} {ticks // FRAME_TICKS}')
-        elif move.kind == PRESS:
+        elif move.kind in (HOLD, PRESS):
             self.debuggee.press(move.value)
         elif move.kind == END:
             self.debuggee.begin_count(move.value)
@@ -505,7 +505,7 @@ class Timeline:
             move = self.move_before(tick)
             if move.kind == FRAMES:
                 self.open(tick - FRAME_TICKS)
-            elif move.kind in (PRESS, END):
+            elif move.kind in (HOLD, PRESS, END):
                 tick = move.start
             else:
                 return tick - 1 if move.kind == STEPS else move.start
