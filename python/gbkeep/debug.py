@@ -43,6 +43,7 @@ HELP = '''\
                       the same, to one that reads
   until-change [N] ADDR
                       up to N steps, to behind the one that changes the byte at ADDR
+  continue            runs to the next breakpoint or watch, without a bound
   profile [N] [PLACE..]
                       up to N steps, to a place; the M-cycles by label, the most first
   frame [BB]          a frame with the buttons BB (00): the sum of 01 right, 02 left,
@@ -67,7 +68,6 @@ HELP = '''\
   power               the power switch, off and on: what a battery keeps stays
   digest              the SHA-256 of the machine's snapshot'''
 OWN_HELP = '''\
-  continue            runs to the next breakpoint or watch, without a bound
   next                to the next line of source, or one instruction; a call is run
   finish              runs to behind the call that it is in
   over [N]            a step; a call is run to its return, in N steps (1,000,000)
