@@ -39,8 +39,10 @@ help:
 	@echo '  make libretro   leaves bin/gbkeep_libretro.so, a core for RetroArch'
 	@echo '  make library    leaves bin/libgbkeep.a, bin/libgbkeep.so, bin/gbkeep.h and'
 	@echo '                  bin/gbkeep.pc, the library for C'
-	@echo '  make dist       leaves a tarball, the page and Debian packages in dist, and'
-	@echo '                  their sums'
+	@echo '  make windows    leaves gbkeep.dll and gbkeep_libretro.dll in bin/windows'
+	@echo '  make wheels     leaves in dist what pip installs, for Linux and Windows'
+	@echo '  make dist       leaves a tarball, the page, Debian packages and wheels in dist,'
+	@echo '                  and their sums'
 	@echo '  make doctor     tells what of all that they need is there, and what each'
 	@echo '                  missing thing costs'
 	@echo '  make clean      removes what make has made in bin and dist, and no game'
@@ -93,6 +95,9 @@ help:
 	@echo '  make test-arm64 runs the program for aarch64 by qemu: tests, damaged files,'
 	@echo '                  comparisons, games from one processor to the other'
 	@echo '                  (SECONDS=20 a kind; after make build ARCH=arm64)'
+	@echo '  make test-windows'
+	@echo '                  plays by the library and the core for Windows, in wine, and'
+	@echo '                  kills it (five minutes)'
 	@echo '  make test-packages'
 	@echo '                  looks at the packages of dist by lintian, and installs,'
 	@echo '                  upgrades and removes them in a system of their own (ten'
@@ -196,13 +201,27 @@ play: bin/gbkeep bin/libgbkeep.so
 CC ?= cc
 LIBRETRO ?= /usr/include/libretro-common
 
-$(OUT)/gbkeep_libretro.so: $(OUT)/libgbkeep.so scripts/libretro.py $(wildcard players/libretro/*.c players/libretro/*.h players/libretro/Makefile* \
-  players/libretro/link.T) players/libretro/tables_h.py python/gbkeep/faults.py python/gbkeep/palettes.py | $(LOOK)
+CORE := scripts/libretro.py $(wildcard players/libretro/*.c players/libretro/*.h players/libretro/Makefile* players/libretro/link.T) \
+  players/libretro/tables_h.py python/gbkeep/faults.py python/gbkeep/palettes.py
+$(OUT)/gbkeep_libretro.so: $(OUT)/libgbkeep.so $(CORE) | $(LOOK)
 	CC="$(CC)" LIBRETRO="$(LIBRETRO)" python3 -B scripts/libretro.py $(ARCH)
 
 libretro: $(OUT)/gbkeep_libretro.so
 
 library: $(OUT)/libgbkeep.so
+
+BY_MODULE := $(addprefix scripts/,changed_module.py library.py page.py)
+bin/windows/gbkeep.dll: $(SOURCES) $(wildcard library/*.*) scripts/windows.py $(BY_MODULE) | $(LOOK)
+	RT=$(RT) python3 -B scripts/windows.py
+
+bin/windows/gbkeep_libretro.dll: bin/windows/gbkeep.dll $(CORE) | $(LOOK)
+	LIBRETRO="$(LIBRETRO)" python3 -B scripts/libretro.py windows
+
+windows: bin/windows/gbkeep_libretro.dll
+
+# the calls of the library, and the core in a front end, by wine
+test-windows: bin/gbkeep bin/libgbkeep.so bin/windows/gbkeep_libretro.dll
+	CC="$(CC)" LIBRETRO="$(LIBRETRO)" python3 -B players/windows/test_windows.py bin/gbkeep
 
 $(OUT)/libgbkeep.so: $(SOURCES) $(wildcard library/*) scripts/library.py $(if $(ARCH),scripts/arm64/target.py) | $(LOOK)
 	RT=$(RT) python3 -B scripts/library.py $(ARCH)
@@ -345,7 +364,7 @@ test:
 	RT=$(RT) python3 -B packaging/dist.py passed $(PROGRAM)/out/gbkeep_program
 	@python3 -B scripts/not_tried.py ends
 
-TARGETS := build demo play install uninstall libretro dist run check edits lint refusals test bench compare hostile fuzz faults strace memory test-window test-libretro library test-library test-arm64 test-packages test-reproducible test-slow-disk test-retroarch test-cards web test-web
+TARGETS := build demo play install uninstall libretro dist run check edits lint refusals test bench compare hostile fuzz faults strace memory test-window test-libretro library test-library windows test-windows test-arm64 test-packages test-reproducible test-slow-disk test-retroarch test-cards web test-web
 FREE := help doctor clean clean-cache
 $(TARGETS): | $(LOOK)
 .PHONY: $(TARGETS) $(FREE) looked

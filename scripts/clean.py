@@ -21,14 +21,15 @@ from typing import Optional
 from gbkeep.input_files import SECTOR
 from gbkeep.new_files import OURS
 
-ELF, ARCHIVE = b'\x7fELF', b'!<arch>\n'
-# what is made in bin and in bin/arm64, and how it begins
+ELF, ARCHIVE, PORTABLE = b'\x7fELF', b'!<arch>\n', b'MZ'
+# what is made in bin and in bin/arm64, and how it begins; and what in bin/windows
 PROGRAMS = {'gbkeep': ELF, 'gbkeep.new': ELF, 'gbkeep-static': ELF, 'gbkeep-static.new': ELF, 'gbkeep.o': ELF, 'gbkeep_libretro.so': ELF, 'libgbkeep.so': ELF,
             'libgbkeep.a': ARCHIVE, 'gbkeep.h': b'/*', 'gbkeep.pc': b'prefix=', 'PROVED': b'logic='}
+OF_WINDOWS = {'gbkeep.dll': PORTABLE, 'gbkeep_libretro.dll': PORTABLE, 'libgbkeep.dll.a': ARCHIVE, 'libgbkeep.a': ARCHIVE, 'gbkeep.h': b'/*'}
 # in bin alone: the gate's notes have a commit and lines of words, and the save file of the demo stays, since somebody may play on with it
 NOTES = {'gate_begun': b'', 'gate_passed': b'commit: ', 'not_tried': b''}
 PICTURES = {'demo.pgm': b'P2', 'demo.png': b'\x89PNG'}
-MADE = {'bin': {**PROGRAMS, **NOTES, **PICTURES}, 'bin/arm64': PROGRAMS}
+MADE = {'bin': {**PROGRAMS, **NOTES, **PICTURES}, 'bin/arm64': PROGRAMS, 'bin/windows': OF_WINDOWS}
 LINKS = {'libgbkeep.so.0': 'libgbkeep.so'}
 DISTS = ('dist', 'dist/arm64')
 # pages that were made: their lists say so, and have the SHA-256 of each file but these, which begin as here
@@ -160,7 +161,7 @@ def clean() -> None:
     gone = list(made())
     for path in gone:
         path.unlink()
-    for folder in ('bin/arm64', *PAGES, *reversed(DISTS), 'bin'):
+    for folder in ('bin/arm64', 'bin/windows', *PAGES, *reversed(DISTS), 'bin'):
         # one that holds anything stays
         if Path(folder).is_dir() and not Path(folder).is_symlink() and not os.listdir(folder):
             os.rmdir(folder)

@@ -123,6 +123,8 @@ NEEDS = {
     'gcc for aarch64': Need('gcc-aarch64-linux-gnu', lambda: found(word('CC_ARM64', 'aarch64-linux-gnu-gcc'))),
     'C library for aarch64': Need('libc6-dev-arm64-cross', cross_libc),
     'binutils for aarch64': command('binutils-aarch64-linux-gnu', *('aarch64-linux-gnu-' + name for name in ('ar', 'objdump', 'readelf', 'strip'))),
+    'gcc for Windows': Need('gcc-mingw-w64-x86-64', lambda: found(word('CC_WINDOWS', 'x86_64-w64-mingw32-gcc')), 'CC_WINDOWS=NAME names another one'),
+    'wine': Need('wine64 wine', lambda: found('wine'), 'WINE=NAME names another one'),
     'git': command('git', 'git'),
     'node': command('nodejs', 'node'),
     'tsc': command('node-typescript', 'tsc'),
@@ -174,6 +176,8 @@ FILES = {
     'bin/libgbkeep.so': (('rt', 'cc', 'ar'), ()),
     'bin/arm64/libgbkeep.so': (ARM64, ()),
     'bin/gbkeep_libretro.so': (('cc', 'libretro.h'), ('bin/libgbkeep.so',)),
+    'bin/windows/gbkeep.dll': (('rt', 'clang of rt', 'gcc for Windows'), ()),
+    'bin/windows/gbkeep_libretro.dll': (('gcc for Windows', 'libretro.h'), ('bin/windows/gbkeep.dll',)),
     'bin/arm64/gbkeep_libretro.so': (('gcc for aarch64', 'C library for aarch64', 'binutils for aarch64', 'libretro.h'), ('bin/arm64/libgbkeep.so',)),
 }
 WINDOW = ('Xvfb', 'xdotool', 'openbox', 'dbus-run-session', 'import', 'GTK', 'Atspi')
@@ -186,6 +190,7 @@ TARGETS = {
     'uninstall': ((), ()),
     'libretro': ((), ('OUT/gbkeep_libretro.so',)),
     'library': ((), ('OUT/libgbkeep.so',)),
+    'windows': ((), ('bin/windows/gbkeep_libretro.dll',)),
     'web': (('rt', 'clang of rt'), ()),
     'dist': (('rt', 'clang of rt', 'git', 'dpkg-deb', 'strip'), ('OUT/gbkeep', 'OUT/libgbkeep.so')),
     'run': (('rt',), ()),
@@ -204,6 +209,7 @@ TARGETS = {
     'test-window': (WINDOW, ('bin/gbkeep', 'bin/libgbkeep.so')),
     'test-library': (('cc',), ('bin/gbkeep', 'bin/libgbkeep.so')),
     'test-arm64': (('qemu-aarch64-static', 'objdump', 'gcc for aarch64', 'C library for aarch64', 'binutils for aarch64'), ('bin/gbkeep', 'bin/arm64/gbkeep')),
+    'test-windows': (('cc', 'wine'), ('bin/gbkeep', 'bin/libgbkeep.so', 'bin/windows/gbkeep_libretro.dll')),
     'test-packages': (('root', 'dpkg-deb', 'lintian', 'desktop-file-validate', 'debootstrap'), ()),
     'test-reproducible': (('rt', 'git', 'dpkg-deb', 'strip', 'cc', 'ar', 'libretro.h'), ()),
     'test-slow-disk': (('cc', *WINDOW), ('bin/gbkeep', 'bin/gbkeep_libretro.so')),

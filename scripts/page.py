@@ -29,7 +29,7 @@ NOT_LISTED = {'README', 'service_worker.js', OF, LIST}
 MOST_BYTES = 640_000
 # what the module is made of, beside the crates
 OTHER_SOURCES = ('library/gbkeep.c', 'library/gbkeep.h', 'library/gbkeep_faults.h', 'web/heap.c', 'web/heap.h', 'web/memory.c',
-                 'web/include/*.h', 'scripts/web.py', 'scripts/memory32.py')
+                 'web/include/*.h', 'scripts/changed_module.py', 'scripts/web.py', 'scripts/memory32.py')
 
 
 # ---- what the module is made of

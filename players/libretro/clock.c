@@ -16,15 +16,7 @@ static ssize_t read_clock_file(const char *path, int save, uint8_t bytes[MOST_TI
 /* Puts this text in the place of SAVE.time, durably. What is not taken as one stays. */
 bool write_clock_file(const char *file, int save, const struct clock_text *text) {
     uint8_t old[MOST_TIME_BYTES + 1];
-    char path[PATH_MAX];
-    const char *name;
-    if (read_clock_file(file, save, old) < 0)
-        return false;
-    snprintf(path, sizeof path, "%s", file);
-    int folder = open_folder(path, &name);
-    bool good = folder >= 0 && put_file(folder, name, text->bytes, text->length, save);
-    close_one(&folder);
-    return good;
+    return read_clock_file(file, save, old) >= 0 && put_file(file, text->bytes, text->length, save);
 }
 
 bool note_clock(bool good) {

@@ -1,12 +1,6 @@
-/* What the files of the core share. Each is of one topic; system.c alone calls the host's system. */
-#define _GNU_SOURCE
-#include <limits.h>
-#include <pthread.h>
+/* What the files of the core share. Each is of one topic; what is of the host's system stands behind files.h. */
 #include <stdatomic.h>
-#include <stdbool.h>
-#include <stddef.h>
-#include <stdint.h>
-#include <sys/types.h>
+#include "files.h"
 #include "gbkeep.h"
 #include "libretro.h"
 
@@ -33,7 +27,7 @@ enum outcome { RUNNING, DONE, FAILED, LEFT };
 struct job {
     enum work work;
     atomic_int outcome;
-    pthread_t thread;
+    thread_name thread;
     bool has_thread, is_told_slow;
     long long since;
     /* the file of SAVE, and of a save its calls */
@@ -42,7 +36,7 @@ struct job {
     gbkeep_call *calls;
     size_t count, room;
     /* what SAVE.time is to have */
-    char clock_file[PATH_MAX];
+    char clock_file[MOST_PATH];
     struct clock_text text;
 };
 
@@ -59,7 +53,7 @@ struct game {
     uint8_t *rom, *image, *state;
     size_t rom_length, state_length;
     uint32_t sectors;
-    char cart[PATH_MAX], save[PATH_MAX], clock_file[PATH_MAX];
+    char cart[MOST_PATH], save[MOST_PATH], clock_file[MOST_PATH];
     bool has_clock, gives_time_away, is_new, imports, exports;
     enum messages messages;
     unsigned save_frames, shown_frames, unsaved_frames;
@@ -84,49 +78,6 @@ extern struct game game;
 extern atomic_int left_behind;
 extern retro_environment_t environment;
 extern retro_log_printf_t log_line;
-
-/* system.c: times */
-long long milliseconds(void);
-/* a moment of a session: it goes on while the computer sleeps, where the system knows that */
-uint64_t moment(void);
-uint64_t date(void);
-/* waits a millisecond */
-void rest(void);
-/* system.c: threads */
-bool begin_thread(pthread_t *thread, void *(*work)(void *), void *given);
-void wait_for_thread(pthread_t thread);
-void leave_thread(pthread_t thread);
-/* system.c: files */
-struct found {
-    bool is_there, is_plain;
-    unsigned long long size;
-};
-/* what a path names, behind its links */
-struct found look_at(const char *path);
-/* what a name is, itself, in a folder; below -1 a path */
-struct found look_at_name(int folder, const char *name);
-void close_one(int *fd);
-bool write_at(int fd, const uint8_t *bytes, size_t size, off_t at);
-bool read_at(int fd, uint8_t *bytes, size_t size);
-/* Splits a path: opens its folder, and leaves the name of the file. */
-int open_folder(char path[PATH_MAX], const char **name);
-/* Makes a file of these bytes durable under a name that nobody has, and then gives it its own. What has that name is replaced, and its permissions stay. A file
- * beside SAVE gets the owner of SAVE, which is open. */
-bool put_file(int folder, const char *name, const void *bytes, size_t size, int save);
-/* The first bytes of a plain file, `most` and one more; NULL where it can't be read. */
-uint8_t *read_file(const char *path, bool follows, size_t most, size_t *length);
-/* How many of the first bytes of a file beside SAVE there are, `most` at most: none where there is no such file, and -1 where it is nobody's own. */
-ssize_t read_own_file(const char *path, int save, uint8_t *bytes, size_t most);
-/* Gives a new file its name once it is whole, as `gbkeep new` does. Nothing but the empty file of such a call that was cut off is replaced. */
-bool make_file(const char *path, const uint8_t *bytes, size_t size);
-/* Opens SAVE as the program does: locks it, and syncs it, since what was written and not synced, by whomever, has to stand before it is read; -1 where it can't. */
-int open_save_file(const char *path, unsigned long long *size);
-/* Syncs SAVE, which then has to have a name still, and this size. */
-bool sync_save_file(int fd, unsigned long long size);
-/* Whether this very process has the file open, and locked. */
-bool is_open_here(const char *path);
-bool real_path(const char *path, char real[PATH_MAX]);
-void take_away(const char *path);
 
 /* messages.c */
 /* A line on the screen, where the option has it there, and in the log; `more` is for the log alone. */
@@ -184,7 +135,7 @@ void show_memory(void);
 
 /* game.c */
 /* NAME and a suffix in the front end's save folder, or beside the cartridge where it has none. */
-bool name_file(char path[PATH_MAX], const char *cart, const char *suffix, bool is_beside);
+bool name_file(char path[MOST_PATH], const char *cart, const char *suffix, bool is_beside);
 bool take_up(void);
 /* Ends the game. What is unsaved is lost. */
 void end_game(void);
@@ -194,7 +145,7 @@ bool give_up_by(uint32_t code);
 
 /* battery.c: battery files of other cores */
 /* The battery file that another core left for this cartridge; false where there is none. */
-bool find_battery(char path[PATH_MAX]);
+bool find_battery(char path[MOST_PATH]);
 /* A battery file that is not taken begins no game: a SAVE without it would stand in its way for good. */
 bool refuse_battery(const char *path, const char *why);
 /* Says what another core's battery file was taken for. */

@@ -7,31 +7,29 @@
 
 struct game game = {.file = -1};
 
-bool name_file(char path[PATH_MAX], const char *cart, const char *suffix, bool is_beside) {
-    const char *folder = NULL, *name = strrchr(cart, '/'), *dot = strrchr(cart, '.');
-    int folder_length = name ? (int)(name - cart) : 1;
-    name = name ? name + 1 : cart;
+bool name_file(char path[MOST_PATH], const char *cart, const char *suffix, bool is_beside) {
+    const char *folder = NULL, *name = name_of(cart), *dot = strrchr(cart, '.');
     int length = dot && dot > name ? (int)(dot - name) : (int)strlen(name);
     int size;
     if (!is_beside && environment(RETRO_ENVIRONMENT_GET_SAVE_DIRECTORY, &folder) && folder && *folder)
-        size = snprintf(path, PATH_MAX, "%s/%.*s%s", folder, length, name, suffix);
+        size = snprintf(path, MOST_PATH, "%s/%.*s%s", folder, length, name, suffix);
     else
-        size = snprintf(path, PATH_MAX, "%.*s/%.*s%s", folder_length, name == cart ? "." : cart, length, name, suffix);
-    return size > 0 && size < PATH_MAX;
+        size = snprintf(path, MOST_PATH, "%.*s%.*s%s", name == cart ? 2 : (int)(name - cart), name == cart ? "./" : cart, length, name, suffix);
+    return size > 0 && size < MOST_PATH;
 }
 
 /* The mark of a game that is played by `record`, beside the file itself where SAVE is a link; false where there is none. */
-static bool find_mark(char path[PATH_MAX]) {
-    char real[PATH_MAX];
+static bool find_mark(char path[MOST_PATH]) {
+    char real[MOST_PATH];
     const char *save = real_path(game.save, real) ? real : game.save;
-    int size = snprintf(path, PATH_MAX, "%s.recorded", save);
-    return size > 0 && size < PATH_MAX && look_at_name(-1, path).is_there;
+    int size = snprintf(path, MOST_PATH, "%s.recorded", save);
+    return size > 0 && size < MOST_PATH && look_at_name(path).is_there;
 }
 
 /* Takes away the mark that a recorded game of this name left, and no other file: the recording's name, `gbkeep record`, and perhaps a number and a digest. */
 static void unmark(void) {
     static const char line[] = "\ngbkeep record\n";
-    char path[PATH_MAX];
+    char path[MOST_PATH];
     size_t length, size = sizeof line - 1, end;
     uint8_t *mark = find_mark(path) ? read_file(path, false, 8192, &length) : NULL;
     if (mark && length >= size && length <= 8192) {
@@ -49,7 +47,7 @@ static void unmark(void) {
 /* Begins a game in a new file, with what another core's battery file keeps where there is one and the option says so. */
 static bool begin_game(void) {
     gbkeep_session *session = NULL;
-    char path[PATH_MAX], why[100];
+    char path[MOST_PATH], why[100];
     size_t length = 0;
     bool has_battery = game.imports && find_battery(path);
     uint8_t *battery = has_battery ? read_file(path, true, MOST_BATTERY, &length) : NULL;
@@ -88,7 +86,7 @@ static bool begin_game(void) {
 
 /* Opens SAVE, and reads it. */
 static bool open_save(void) {
-    char line[MOST_LINE], mark[PATH_MAX];
+    char line[MOST_LINE], mark[MOST_PATH];
     unsigned long long size;
     game.file = open_save_file(game.save, &size);
     if (game.file < 0)
@@ -130,7 +128,7 @@ bool take_up(void) {
         return (code == GBKEEP_DONE && game.state) || fail_by(GBKEEP_NO_MEMORY, "stream");
     }
     game.has_clock = game.rom[0x147] == 0x0f || game.rom[0x147] == 0x10;
-    struct found there = look_at_name(-1, game.save);
+    struct found there = look_at_name(game.save);
     /* an empty file is what a cut within the making of a game leaves */
     game.is_new = !there.is_there || (there.is_plain && there.size == 0);
     if ((game.is_new && !begin_game()) || !open_save())

@@ -83,7 +83,7 @@ bool fail_by(uint32_t code, const char *command) {
 }
 
 void name_shortly(char name[MOST_NAME + 1], const char *path) {
-    const char *slash = strrchr(path, '/'), *whole = slash ? slash + 1 : path, *end = whole + strlen(whole);
+    const char *whole = name_of(path), *end = whole + strlen(whole);
     int front = MOST_NAME - 2 - 8;
     if (end - whole <= MOST_NAME) {
         memcpy(name, whole, (size_t)(end - whole) + 1);

@@ -31,7 +31,7 @@ static bool make_calls(struct job *job) {
         const gbkeep_call *call = &job->calls[at];
         if (atomic_load(&job->outcome) == LEFT)
             return false;
-        if (call->kind == GBKEEP_WRITE ? !write_at(job->file, call->bytes, SECTOR, (off_t)call->sector * SECTOR) : !sync_save(job))
+        if (call->kind == GBKEEP_WRITE ? !write_at(job->file, call->bytes, SECTOR, (uint64_t)call->sector * SECTOR) : !sync_save(job))
             return false;
     }
     return true;
@@ -71,7 +71,7 @@ void begin_work(enum work kind) {
 
 void leave_work(void) {
     int running = RUNNING;
-    pthread_t thread = game.job->thread;
+    thread_name thread = game.job->thread;
     bool has_thread = game.job->has_thread;
     atomic_fetch_add(&left_behind, 1);
     if (!atomic_compare_exchange_strong(&game.job->outcome, &running, LEFT)) {

@@ -1,8 +1,12 @@
-/* What the core asks of the host's system: times, threads and files. No file of the core's has the number of a standard stream. */
-#include "core.h"
+/* files.h for POSIX. No file of the core's has the number of a standard stream. */
+#ifndef _WIN32
+#define _GNU_SOURCE
+#include "files.h"
 #include <errno.h>
 #include <fcntl.h>
+#include <limits.h>
 #include <poll.h>
+#include <pthread.h>
 #include <signal.h>
 #include <stdio.h>
 #include <stdlib.h>
@@ -22,6 +26,7 @@ __asm__(".symver pthread_create, pthread_create@GLIBC_2.17\n.symver pthread_join
 
 /* the first number behind those of the standard streams, and how many files of a process are looked at */
 enum { FIRST_FILE = 3, MOST_FILES = 4096 };
+_Static_assert((int)MOST_PATH >= PATH_MAX, "a path that the system takes has room");
 static const long long LAST_SECOND = 99999999999;
 
 /* ---- times */
@@ -55,21 +60,23 @@ void rest(void) {
 
 /* ---- threads */
 
-bool begin_thread(pthread_t *thread, void *(*work)(void *), void *given) {
+bool begin_thread(thread_name *thread, void *(*work)(void *), void *given) {
     sigset_t all, before;
+    pthread_t begun = 0;
     /* signals are for the front end's threads */
     sigfillset(&all);
     sigprocmask(SIG_SETMASK, &all, &before);
-    bool is_begun = pthread_create(thread, NULL, work, given) == 0;
+    bool is_begun = pthread_create(&begun, NULL, work, given) == 0;
     sigprocmask(SIG_SETMASK, &before, NULL);
+    *thread = begun;
     return is_begun;
 }
 
-void wait_for_thread(pthread_t thread) {
+void wait_for_thread(thread_name thread) {
     pthread_join(thread, NULL);
 }
 
-void leave_thread(pthread_t thread) {
+void leave_thread(thread_name thread) {
     pthread_detach(thread);
 }
 
@@ -122,17 +129,22 @@ static struct found found_of(struct statx there) {
     return (struct found){there.stx_mode != 0, S_ISREG(there.stx_mode), there.stx_size};
 }
 
+const char *name_of(const char *path) {
+    const char *slash = strrchr(path, '/');
+    return slash ? slash + 1 : path;
+}
+
 struct found look_at(const char *path) {
     return found_of(about(AT_FDCWD, path, 0));
 }
 
-struct found look_at_name(int folder, const char *name) {
-    return found_of(about(folder < 0 ? AT_FDCWD : folder, name, AT_SYMLINK_NOFOLLOW));
+struct found look_at_name(const char *path) {
+    return found_of(about(AT_FDCWD, path, AT_SYMLINK_NOFOLLOW));
 }
 
-bool write_at(int fd, const uint8_t *bytes, size_t size, off_t at) {
+bool write_at(int fd, const uint8_t *bytes, size_t size, uint64_t at) {
     for (size_t done = 0; done < size;) {
-        ssize_t more = pwrite(fd, bytes + done, size - done, at + (off_t)done);
+        ssize_t more = pwrite(fd, bytes + done, size - done, (off_t)(at + done));
         if (more < 0 && errno == EINTR)
             continue;
         if (more <= 0)
@@ -159,12 +171,12 @@ static bool lock(int fd) {
     return flock(fd, LOCK_EX | LOCK_NB) == 0 || errno == EOPNOTSUPP || errno == ENOSYS;
 }
 
-int open_folder(char path[PATH_MAX], const char **name) {
-    char *slash = strrchr(path, '/');
-    *name = slash ? slash + 1 : path;
-    if (slash)
-        *slash = 0;
-    return open_above(AT_FDCWD, slash ? *path ? path : "/" : ".", O_RDONLY | O_DIRECTORY, 0);
+/* Opens the folder of a path, and leaves the name of the file. */
+static int open_folder(const char *path, const char **name) {
+    char folder[PATH_MAX];
+    *name = name_of(path);
+    int length = snprintf(folder, sizeof folder, "%.*s", (int)(*name - path), path);
+    return length < (int)sizeof folder ? open_above(AT_FDCWD, length > 0 ? folder : ".", O_RDONLY | O_DIRECTORY, 0) : -1;
 }
 
 /* Whether the name is still that of the empty file that keeps it, and that of somebody who makes files here. */
@@ -200,8 +212,12 @@ static bool put(int folder, const char *name, const void *bytes, size_t size, in
     return good && fsync(folder) == 0;
 }
 
-bool put_file(int folder, const char *name, const void *bytes, size_t size, int save) {
-    return put(folder, name, bytes, size, -1, save);
+bool put_file(const char *path, const void *bytes, size_t size, int save) {
+    const char *name;
+    int folder = open_folder(path, &name);
+    bool good = folder >= 0 && put(folder, name, bytes, size, -1, save);
+    close_one(&folder);
+    return good;
 }
 
 uint8_t *read_file(const char *path, bool follows, size_t most, size_t *length) {
@@ -228,7 +244,7 @@ static bool is_own(int fd, int save) {
 ssize_t read_own_file(const char *path, int save, uint8_t *bytes, size_t most) {
     int fd = open_above(AT_FDCWD, path, O_RDONLY | O_NONBLOCK | O_NOCTTY | O_NOFOLLOW, 0);
     if (fd < 0)
-        return errno == ENOENT && !look_at_name(-1, path).is_there ? 0 : -1;
+        return errno == ENOENT && !look_at_name(path).is_there ? 0 : -1;
     ssize_t size = is_own(fd, save) ? read(fd, bytes, most) : -1;
     close(fd);
     return size;
@@ -236,10 +252,8 @@ ssize_t read_own_file(const char *path, int save, uint8_t *bytes, size_t most) {
 
 /* An empty file, locked, keeps the name meanwhile. */
 bool make_file(const char *path, const uint8_t *bytes, size_t size) {
-    char folder_path[PATH_MAX];
     const char *name;
-    snprintf(folder_path, sizeof folder_path, "%s", path);
-    int folder = open_folder(folder_path, &name), keeper = open_above(folder, name, O_WRONLY | O_CREAT | O_EXCL | O_NOFOLLOW, 0600);
+    int folder = open_folder(path, &name), keeper = open_above(folder, name, O_WRONLY | O_CREAT | O_EXCL | O_NOFOLLOW, 0600);
     bool is_made = keeper >= 0, good;
     if (!is_made)
         keeper = open_above(folder, name, O_WRONLY | O_NOFOLLOW | O_NONBLOCK | O_NOCTTY, 0);
@@ -286,10 +300,11 @@ bool is_open_here(const char *path) {
     return is_found;
 }
 
-bool real_path(const char *path, char real[PATH_MAX]) {
+bool real_path(const char *path, char real[MOST_PATH]) {
     return realpath(path, real) != NULL;
 }
 
 void take_away(const char *path) {
     unlink(path);
 }
+#endif
