@@ -41,8 +41,8 @@ help:
 	@echo '                  bin/gbkeep.pc, the library for C'
 	@echo '  make windows    leaves gbkeep.dll and gbkeep_libretro.dll in bin/windows'
 	@echo '  make wheels     leaves in dist what pip installs, for Linux and Windows'
-	@echo '  make dist       leaves a tarball, the page, Debian packages and wheels in dist,'
-	@echo '                  and their sums'
+	@echo '  make dist       leaves a tarball, the page, Debian packages and wheels in'
+	@echo '                  dist, and their sums'
 	@echo '  make doctor     tells what of all that they need is there, and what each'
 	@echo '                  missing thing costs'
 	@echo '  make clean      removes what make has made in bin and dist, and no game'
@@ -255,6 +255,10 @@ test-web: bin/gbkeep bin/libgbkeep.so
 	$(WEB_PYTHON) -B web/test_page_faults.py bin/gbkeep && \
 	$(WEB_PYTHON) -B web/test_engines.py bin/gbkeep || exit 1; done
 
+# a wheel for each library that is built
+wheels: bin/libgbkeep.so
+	python3 -B packaging/wheels.py
+
 dist: $(OUT)/gbkeep $(OUT)/libgbkeep.so $(if $(wildcard $(LIBRETRO)/libretro.h),$(OUT)/gbkeep_libretro.so)
 	$(if $(ARCH),,RT=$(RT) python3 -B scripts/web.py bin/web)
 	RT=$(RT) python3 -B packaging/dist.py $(ARCH)
@@ -364,7 +368,7 @@ test:
 	RT=$(RT) python3 -B packaging/dist.py passed $(PROGRAM)/out/gbkeep_program
 	@python3 -B scripts/not_tried.py ends
 
-TARGETS := build demo play install uninstall libretro dist run check edits lint refusals test bench compare hostile fuzz faults strace memory test-window test-libretro library test-library windows test-windows test-arm64 test-packages test-reproducible test-slow-disk test-retroarch test-cards web test-web
+TARGETS := build demo play install uninstall libretro dist run check edits lint refusals test bench compare hostile fuzz faults strace memory test-window test-libretro library test-library windows test-windows wheels test-arm64 test-packages test-reproducible test-slow-disk test-retroarch test-cards web test-web
 FREE := help doctor clean clean-cache
 $(TARGETS): | $(LOOK)
 .PHONY: $(TARGETS) $(FREE) looked

@@ -1,4 +1,4 @@
-"""Leaves in dist/ what somebody without the toolchain needs: a tarball, Debian packages, their sums, and what is known of how they were made.
+"""Leaves in dist/ what somebody without the toolchain needs: a tarball, Debian packages, wheels, their sums, and what is known of how they were made.
 
 usage: dist.py [arm64]         makes dist/ of what bin has and the clone, and the page of bin/web; or dist/arm64 of bin/arm64
        dist.py begins          the gate begins: what an earlier one has left is gone
@@ -9,7 +9,6 @@ import gzip
 import hashlib
 import io
 import os
-import re
 import shutil
 import subprocess
 import sys
@@ -19,6 +18,7 @@ import time
 from pathlib import Path
 
 import installed
+import wheels
 from scripts import page
 from scripts.doctor import needed, tries
 
@@ -70,12 +70,6 @@ def gate_result():
         return 'not run on this commit'
     program = 'with this program' if known['program'] == sum_of(PROGRAM) else 'with another build of the program'
     return f'passed on this commit, {program}, by {known["prover"]}, {known["ended"]}'
-
-
-def libc_needed(data):
-    """The newest version of the C library that a symbol of these linked files asks for."""
-    versions = {one for each in data for one in re.findall(rb'GLIBC_(\d+(?:\.\d+)+)\0', each)}
-    return max((one.decode() for one in versions), key=lambda one: tuple(map(int, one.split('.'))), default='2.0')
 
 
 def asked_for(package):
@@ -215,7 +209,7 @@ class Release:
         return one
 
     def libc(self, name):
-        return libc_needed(one.data for one in self.packaged if one.package == name)
+        return '.'.join(map(str, wheels.libc_needed(one.data for one in self.packaged if one.package == name)))
 
     def packages(self):
         every, here = 'Architecture: all\nMulti-Arch: foreign\n', f'Architecture: {self.machine}\n'
@@ -274,6 +268,9 @@ def main(is_arm64):
         print(f'without the page: python3 -B scripts/web.py {WEB} makes it')
     for without in release.packages():
         print(f'without {without}')
+    made = wheels.make(folder, *(('aarch64',) if is_arm64 else ('x86_64', 'windows')))
+    if not is_arm64 and not any('win_amd64' in name for name in made):
+        print('without a wheel for Windows: make windows builds its library')
     # of BUILT there is no sum: when the gate ran is another thing in each clone
     sums = ''.join(f'{sum_of(path)}  {path.name}\n' for path in sorted(folder.iterdir()) if path.is_file())
     (folder / 'SHA256SUMS').write_text(sums)

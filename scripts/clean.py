@@ -32,6 +32,7 @@ PICTURES = {'demo.pgm': b'P2', 'demo.png': b'\x89PNG'}
 MADE = {'bin': {**PROGRAMS, **NOTES, **PICTURES}, 'bin/arm64': PROGRAMS, 'bin/windows': OF_WINDOWS}
 LINKS = {'libgbkeep.so.0': 'libgbkeep.so'}
 DISTS = ('dist', 'dist/arm64')
+WHEEL = re.compile(r'gbkeep-[\d.]+-py3-none-(manylinux_\d+_\d+_(x86_64|aarch64)|win_amd64)\.whl')
 # pages that were made: their lists say so, and have the SHA-256 of each file but these, which begin as here
 PAGES, LIST, MARK = ('dist/web', 'bin/web'), 'files.js', re.compile(rb'// Made by scripts/(web|page)\.py: .*\n')
 NOT_LISTED = {'README': b'gbkeep in a browser\n', 'service_worker.js': b'// The page without a network', 'gbkeep.wasm.of': b'module: '}
@@ -136,6 +137,9 @@ def made() -> Iterator[Path]:
                 if begins(path, 1) is not None and hashlib.sha256(path.read_bytes()).hexdigest() == wanted:
                     yield path
             yield from (folder / 'BUILT', folder / 'SHA256SUMS')
+        for path in sorted(folder.glob('*.whl')):
+            if WHEEL.fullmatch(path.name) and begins(path, 4) == b'PK\3\4':
+                yield path
     for page in map(Path, PAGES):
         listed = begins(page / LIST, 1 << 20) or b''
         if not page.is_symlink() and MARK.match(listed):
@@ -158,7 +162,7 @@ def digests(listed: bytes) -> 'dict[str, str]':
 
 
 def clean() -> None:
-    gone = list(made())
+    gone = list(dict.fromkeys(made()))
     for path in gone:
         path.unlink()
     for folder in ('bin/arm64', 'bin/windows', *PAGES, *reversed(DISTS), 'bin'):

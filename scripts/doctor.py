@@ -6,7 +6,7 @@ usage: doctor.py                      tells what is there, what is missing, and 
        doctor.py --packages TARGET..  Debian's packages of what these targets need or leave out, as far as it is missing
 
 `make` looks by this before it proves or builds anything. What a file is built by is looked for only where that file is not up to date. RT, CC, LIBRETRO,
-PYTHON, WEB_PYTHON, NUMPY_PYTHON, PIL_PYTHON, ARCH and KERNEL are those of the Makefile."""
+PYTHON, WEB_PYTHON, NUMPY_PYTHON, PIL_PYTHON, ARCH, KERNEL, CC_WINDOWS and WINE are those of the Makefile."""
 from __future__ import annotations
 
 import functools
@@ -124,7 +124,7 @@ NEEDS = {
     'C library for aarch64': Need('libc6-dev-arm64-cross', cross_libc),
     'binutils for aarch64': command('binutils-aarch64-linux-gnu', *('aarch64-linux-gnu-' + name for name in ('ar', 'objdump', 'readelf', 'strip'))),
     'gcc for Windows': Need('gcc-mingw-w64-x86-64', lambda: found(word('CC_WINDOWS', 'x86_64-w64-mingw32-gcc')), 'CC_WINDOWS=NAME names another one'),
-    'wine': Need('wine64 wine', lambda: found('wine'), 'WINE=NAME names another one'),
+    'wine': Need('wine64 wine', lambda: found(word('WINE', 'wine')), 'WINE=NAME names another one'),
     'git': command('git', 'git'),
     'node': command('nodejs', 'node'),
     'tsc': command('node-typescript', 'tsc'),
@@ -190,6 +190,7 @@ TARGETS = {
     'uninstall': ((), ()),
     'libretro': ((), ('OUT/gbkeep_libretro.so',)),
     'library': ((), ('OUT/libgbkeep.so',)),
+    'wheels': ((), ('bin/libgbkeep.so',)),
     'windows': ((), ('bin/windows/gbkeep_libretro.dll',)),
     'web': (('rt', 'clang of rt'), ()),
     'dist': (('rt', 'clang of rt', 'git', 'dpkg-deb', 'strip'), ('OUT/gbkeep', 'OUT/libgbkeep.so')),

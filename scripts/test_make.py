@@ -467,7 +467,8 @@ def test_clean(folder):
     made = {'bin/gbkeep': elf, 'bin/libgbkeep.so': elf, 'bin/libgbkeep.a': b'!<arch>\n', 'bin/gbkeep.h': b'/* gbkeep */\n', 'bin/gbkeep.pc': b'prefix=/usr\n',
             'bin/gate_passed': b'commit: x\n', 'bin/gate_begun': b'no commit', 'bin/not_tried': b'x: y\n', 'bin/demo.pgm': b'P2\n160 144\n3\n',
             'bin/demo.png': b'\x89PNG\r\n\x1a\n', 'bin/arm64/gbkeep': elf, 'bin/arm64/gbkeep-static': elf, 'bin/arm64/PROVED': b'logic=proved\n',
-            'dist/BUILT': b'version: 0\n', 'dist/gbkeep.deb': b'!<arch>\ndebian'}
+            'bin/windows/gbkeep.dll': b'MZ\x90\0', 'bin/windows/gbkeep_libretro.dll': b'MZ\x90\0', 'bin/windows/libgbkeep.dll.a': b'!<arch>\n',
+            'dist/BUILT': b'version: 0\n', 'dist/gbkeep.deb': b'!<arch>\ndebian', 'dist/gbkeep-0.1.0-py3-none-win_amd64.whl': b'PK\3\4wheel'}
     for place, maker in (('dist/web', 'web'), ('bin/web', 'page')):
         page = {'index.html': b'<!doctype html>', 'gbkeep.wasm.gz': b'\x1f\x8b', 'page.js': b'page', 'demo.gb': (TOP / 'examples/demo/demo.gb').read_bytes()}
         files = {name: hashlib.sha256(data).hexdigest() for name, data in page.items()}
@@ -475,7 +476,8 @@ def test_clean(folder):
         page |= {'files.js': listed.encode(), 'README': b'gbkeep in a browser\n\nThese', 'service_worker.js': b'// The page without a network, once'}
         made |= {f'{place}/{name}': data for name, data in page.items()}
     ours = {'bin/demo.gbkeep': GAME, 'bin/play-demo.sav': GAME, 'bin/game.gbkeep': GAME, 'bin/run.rec': b'GBKPREC1' + bytes(504), 'bin/zelda.gb': bytes(32768),
-            'bin/zelda.sav': bytes(8192), 'bin/not_there/gbkeep': elf, 'bin/arm64/mine.gbkeep': GAME, 'bin/libgbkeep.so.mine': elf,
+            'bin/zelda.sav': bytes(8192), 'bin/not_there/gbkeep': elf, 'bin/arm64/mine.gbkeep': GAME, 'bin/libgbkeep.so.mine': elf, 'bin/windows/demo.gbkeep': GAME,
+            'dist/gbkeep-0.1.0-py3-none-any.whl': b'PK\3\4mine', 'dist/gbkeep-0.1.0-py3-none-manylinux_2_17_x86_64.whl': b'mine',
             'bin/gbkeep_libretro.so': GAME, 'bin/gbkeep.new': bytes(512) + GAME, 'dist/letter.txt': b'mine',
             'dist/other.deb': b'mine', 'dist/web/mine.gb': b'mine', 'dist/web/changed.js': b'mine', 'bin/web/changed.js': b'mine', 'dist/changed.deb': b'changed'}
     for name, data in {**made, **ours}.items():
@@ -575,7 +577,7 @@ def at_once(pool, test):
 def main():
     os.chdir(TOP)
     # rooms have an environment of their own, and what is looked for here is to be the same
-    for name in ('NOT_TRIED', 'RT', 'CC', 'CC_ARM64', 'LIBRETRO', 'PYTHON', 'PIL_PYTHON', 'WEB_PYTHON', 'ARCH', 'KERNEL', 'JOBS'):
+    for name in ('NOT_TRIED', 'RT', 'CC', 'CC_ARM64', 'LIBRETRO', 'PYTHON', 'PIL_PYTHON', 'WEB_PYTHON', 'ARCH', 'KERNEL', 'JOBS', 'CC_WINDOWS', 'WINE'):
         os.environ.pop(name, None)
     names = sys.argv[1:]
     with ThreadPoolExecutor(4) as pool:

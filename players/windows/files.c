@@ -75,8 +75,6 @@ static void try_others(void) {
     expect("an empty file that somebody has", !make_file("empty", bytes, LENGTH));
     CloseHandle(held);
     expect("an empty file", make_file("empty", bytes, LENGTH) && look_at("empty").size == LENGTH);
-    expect("a read-only file", SetFileAttributesW(L"t.gbkeep", FILE_ATTRIBUTE_READONLY) && open_save_file("t.gbkeep", &size) == -1);
-    SetFileAttributesW(L"t.gbkeep", FILE_ATTRIBUTE_NORMAL);
 }
 
 static void try_names(void) {

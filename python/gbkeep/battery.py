@@ -18,7 +18,6 @@ RAM is of; `inputs N`, the count of the game's, of which those after the checkpo
 import argparse
 import contextlib
 import errno
-import fcntl
 import os
 import tempfile
 import time
@@ -32,6 +31,7 @@ from .faults import explained
 from .game import Refused, find_program, free_name, header_of, run
 from .input_files import MOST_SAVE, PathLike, open_plain, printable, read_bytes
 from .new_files import check_target, new_file
+from .system import IS_POSIX, SHARED, lock
 from .tools import Failed, Words, count_word, name_of_tool, run_tool
 
 MBC2_BYTES, MBC2_OF_MGBA, MBC2_OF_GAMBATTE = 512, 256, 8_192
@@ -185,10 +185,11 @@ def checkpoint_of(image: bytes) -> Checkpoint:
 
 def image_of(save: PathLike) -> tuple[bytes, float]:
     """The bytes of a SAVE that no program has open, and when they were written."""
-    descriptor = open_plain(save)
+    # where there are no locks, a SAVE that is open elsewhere can't be opened to be written
+    descriptor = open_plain(save, how=os.O_RDONLY if IS_POSIX else os.O_RDWR)
     try:
         try:
-            fcntl.flock(descriptor, fcntl.LOCK_SH | fcntl.LOCK_NB)
+            lock(descriptor, SHARED)
         except OSError as error:
             if error.errno not in (errno.EOPNOTSUPP, errno.ENOSYS):
                 raise Failed(f'{name_of_tool()}: {printable(save)}: another program has it open: end that one first') from None

@@ -24,12 +24,14 @@ from typing import Any, NamedTuple, Optional, SupportsIndex, Union
 from .game import A, B, DOWN, HEIGHT, LEFT, RIGHT, SELECT, START, UP, WIDTH
 from .library import Machine
 from .machines import MOST_ADDRESS, MOST_BUTTONS, MOST_GIVEN, MOST_MEMORY, Buffer, Cart, number, rom_of
+from .system import IS_POSIX
 from .tools import Words, count_word, run_tool
 
 try:
     import numpy
 except ImportError:
-    MISSING = "gbkeep.env needs numpy, which is missing: install Debian's package python3-numpy, and start it by that Python (/usr/bin/python3)"
+    INSTALL = "install Debian's package python3-numpy, and start it by that Python (/usr/bin/python3)" if IS_POSIX else 'pip install numpy'
+    MISSING = f'gbkeep.env needs numpy, which is missing: {INSTALL}'
     if __name__ == '__main__':
         sys.exit(MISSING)
     raise ImportError(MISSING) from None

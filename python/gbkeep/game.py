@@ -34,6 +34,7 @@ from .input_files import MOST_CART, PathLike, printable
 from .machines import NO_STATE, STATE_HEADER, STATE_MARK, Buffer, Cart, MissingProgram, NoState, Played, Refused, bytes_of
 from .pictures import HEIGHT, PICTURE_HEAD, SCALE, WIDTH, png_of
 from .streams import take_streams
+from .system import IS_POSIX, NO_PROGRAM
 
 if TYPE_CHECKING:
     import numpy
@@ -99,6 +100,8 @@ def find_program() -> str:
 @contextlib.contextmanager
 def starting(program: PathLike) -> Iterator[None]:
     """Turns what the system says of a program that can't be run into a refusal."""
+    if not IS_POSIX:
+        raise MissingProgram(program, NO_PROGRAM)
     if os.path.dirname(program) == '' and not shutil.which(program):
         raise MissingProgram(program, 'not found')
     if os.path.dirname(program) and (os.path.isdir(program) or not os.access(program, os.X_OK)):

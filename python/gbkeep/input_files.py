@@ -9,6 +9,7 @@ from collections.abc import Container
 from typing import Optional, Union
 
 from .streams import take_streams
+from .system import flags, user
 
 PathLike = Union[str, bytes, os.PathLike]
 
@@ -59,7 +60,7 @@ def open_plain(path: PathLike, owners: Optional[Container[int]] = None, how: int
     take_streams()
     name = name or printable(path)
     try:
-        descriptor = os.open(path, how | os.O_NONBLOCK | os.O_CLOEXEC | os.O_NOCTTY | (0 if owners is None else os.O_NOFOLLOW))
+        descriptor = os.open(path, how | flags('NONBLOCK', 'NOCTTY', *(() if owners is None else ('NOFOLLOW',))))
     except (OSError, ValueError) as error:
         if owners is not None and os.path.islink(path):
             raise Planted(f'{name}: {LINK}') from None
@@ -87,7 +88,7 @@ def is_there(path: PathLike) -> bool:
 
 def owners_beside(save: PathLike) -> set[int]:
     """Whose files beside SAVE are taken: this user's, and those of the user whose SAVE it is."""
-    owners = {os.geteuid()}
+    owners = {user()}
     with contextlib.suppress(OSError, ValueError):
         owners.add(os.stat(save).st_uid)
     return owners

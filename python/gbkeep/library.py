@@ -19,6 +19,7 @@ import ctypes
 import os
 import threading
 from collections.abc import Callable, Iterator
+from pathlib import Path
 from types import TracebackType
 from typing import BinaryIO, NamedTuple, Optional, SupportsIndex
 
@@ -26,9 +27,12 @@ from .faults import CODES, FAULTS
 from .game import Picture, prefix
 from .input_files import SECTOR
 from .machines import MOST_GIVEN, PICTURE_LENGTH, Buffer, Cart, NoState, Played, Refused, bytes_of, number, rom_of
+from .system import IS_POSIX
 
 SAVE_FIRST, DAMAGED_SNAPSHOT, OTHER_CARTRIDGE, NO_TIME = (CODES[one] for one in ('save first', 'damaged snapshot', 'other cartridge', 'no time'))
 MOST_UNSAVED = 3_200
+# the file of the library
+NAME = 'libgbkeep.so.0' if IS_POSIX else 'gbkeep.dll'
 # Python sees a Ctrl-C when a call of C has ended: of so many frames within some 50 ms
 FRAMES_AT_ONCE = 1_000
 # what to do about a refusal, where it is another thing than for a program that has files
@@ -60,10 +64,12 @@ class Shades(Picture):
 
 
 def find_library() -> str:
-    """What the variable GBKEEP_LIBRARY names; else bin/libgbkeep.so of the clone, or the one that is installed with this; else the system's."""
+    """What the variable GBKEEP_LIBRARY names; else the one in this package, as pip installs it, bin/libgbkeep.so of the clone, or the one that is installed
+    with this; else the system's."""
     # what is installed in another folder than lib has a link beside the package
-    beside = [prefix() / name for name in ('bin/libgbkeep.so', 'share/gbkeep/libgbkeep.so.0', 'lib/libgbkeep.so.0')]
-    return os.environ.get('GBKEEP_LIBRARY') or next((str(one) for one in beside if one.exists()), 'libgbkeep.so.0')
+    beside = [prefix() / name for name in ('bin/libgbkeep.so', 'share/gbkeep/libgbkeep.so.0', 'lib/libgbkeep.so.0')] if IS_POSIX else []
+    within = Path(__file__).resolve().parent / NAME
+    return os.environ.get('GBKEEP_LIBRARY') or next((str(one) for one in (within, *beside) if one.exists()), NAME)
 
 
 def advice_of(code: int) -> str:
@@ -360,14 +366,22 @@ class Session(_Held):
         """Makes them on a file that was opened without a buffer, for reading and writing."""
         for call in self.calls():
             if call.bytes is None:
-                os.fdatasync(file.fileno())
+                (os.fdatasync if IS_POSIX else os.fsync)(file.fileno())
             else:
                 done = 0
                 while done < SECTOR:
-                    put = os.pwrite(file.fileno(), call.bytes[done:], call.sector * SECTOR + done)
+                    put = written_at(file, call.bytes[done:], call.sector * SECTOR + done)
                     if put == 0:
                         raise Refused('device failed', 'play')
                     done += put
+
+
+def written_at(file: BinaryIO, data: bytes, at: int) -> int:
+    """Writes at a place of a file that has no buffer: how many bytes."""
+    if IS_POSIX:
+        return os.pwrite(file.fileno(), data, at)
+    file.seek(at)
+    return file.write(data) or 0
 
 
 class Line(ctypes.Structure):

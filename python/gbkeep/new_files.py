@@ -5,13 +5,13 @@ and a cut leaves the old one or the new one. One whose name must be new gets it 
 whatever is a file of gbkeep's, is never replaced. Of files beside SAVE no link is followed, and none of another user is taken."""
 import contextlib
 import errno
-import fcntl
 import os
 import stat
 from collections.abc import Iterable, Iterator
 from typing import IO, Optional
 
 from .input_files import ANOTHER_USER, LINK, SECTOR, PathLike, WrongInput, open_plain, owners_beside, printable, reason
+from .system import EXCLUSIVE, IS_POSIX, flags, lock, user
 
 # what a root of a SAVE begins with, in the first sector or in the second, and a RECORDING
 OURS = b'GBKP'
@@ -69,7 +69,7 @@ def is_free(path: PathLike) -> bool:
 
 def is_empty(held: os.stat_result) -> bool:
     """Whether this is an empty file of one's own, which has no other name."""
-    return stat.S_ISREG(held.st_mode) and (held.st_size, held.st_uid, held.st_nlink) == (0, os.geteuid(), 1)
+    return stat.S_ISREG(held.st_mode) and (held.st_size, held.st_uid, held.st_nlink) == (0, user(), 1)
 
 
 def check_folder(path: PathLike, name: str) -> None:
@@ -110,6 +110,9 @@ def check_standard_output(descriptor: int, inputs: Iterable[PathLike]) -> None:
 
 
 def sync_folder(path: PathLike) -> None:
+    if not IS_POSIX:
+        # no call does so there
+        return
     folder = os.open(path, os.O_RDONLY | os.O_DIRECTORY)
     try:
         os.fsync(folder)
@@ -128,7 +131,7 @@ def name_beside(path: PathLike) -> str:
 
 def open_new(path: str, mode: int) -> int:
     """A descriptor of a file that was not there, also not as a link."""
-    return os.open(path, os.O_RDWR | os.O_CREAT | os.O_EXCL | os.O_NOFOLLOW | os.O_CLOEXEC, mode)
+    return os.open(path, os.O_RDWR | os.O_CREAT | os.O_EXCL | flags('NOFOLLOW'), mode)
 
 
 @contextlib.contextmanager
@@ -151,9 +154,10 @@ def new_file(path: PathLike, inputs: Iterable[PathLike] = (), text: bool = False
             is_made = False
             raise Unsafe(f'{printable(path)}: {reason(error)}') from None
         with open(descriptor, 'w' if text else 'wb', **({'encoding': 'utf-8'} if text else {})) as file:
-            if not must_be_new:
-                keep_mode(target, descriptor)
-            keep_owner(target if save is None else save, descriptor)
+            if IS_POSIX:
+                if not must_be_new:
+                    keep_mode(target, descriptor)
+                keep_owner(target if save is None else save, descriptor)
             yield file
             file.flush()
             os.fsync(descriptor)
@@ -178,6 +182,9 @@ def in_its_folder(path: PathLike) -> str:
 
 def give_name(made: str, target: str, name: str) -> None:
     """Gives a file a name that nobody has: unlike a rename, a link takes the place of nothing. An empty file of one's own is replaced."""
+    if not IS_POSIX:
+        rename_to_free(made, target, name)
+        return
     try:
         os.link(made, target, follow_symlinks=False)
     except OSError:
@@ -189,16 +196,27 @@ def give_name(made: str, target: str, name: str) -> None:
             os.unlink(made)
 
 
+def rename_to_free(made: str, target: str, name: str) -> None:
+    """Gives a file a name that nobody has, where no rename takes the place of anything. An empty file of one's own goes before."""
+    with contextlib.suppress(FileNotFoundError):
+        if is_empty(os.lstat(target)):
+            os.unlink(target)
+    try:
+        os.rename(made, target)
+    except FileExistsError:
+        raise Unsafe(f'{name} exists already: take a name that is free') from None
+
+
 @contextlib.contextmanager
 def empty_file(target: str, name: str) -> Iterator[None]:
     """While the block is done, an empty file has this name, locked as `gbkeep` locks it: one that is made, or one of one's own."""
     is_made = not os.path.lexists(target)
     try:
-        descriptor = open_new(target, 0o666) if is_made else os.open(target, os.O_RDWR | os.O_NONBLOCK | os.O_NOFOLLOW | os.O_CLOEXEC)
+        descriptor = open_new(target, 0o666) if is_made else os.open(target, os.O_RDWR | flags('NONBLOCK', 'NOFOLLOW'))
     except OSError as error:
         raise Unsafe(f'{name}: {reason(error)}') from None
     try:
-        if not is_locked(descriptor, fcntl.LOCK_EX) or not is_empty(os.fstat(descriptor)) or not has_name(descriptor, target):
+        if not is_locked(descriptor, EXCLUSIVE) or not is_empty(os.fstat(descriptor)) or not has_name(descriptor, target):
             raise Unsafe(f'{name} exists already: take a name that is free')
         try:
             yield
@@ -222,7 +240,7 @@ def has_name(descriptor: int, path: PathLike) -> bool:
 def is_locked(descriptor: int, kind: int) -> bool:
     """Locks an open file as `gbkeep` does; False where another one has locked it."""
     try:
-        fcntl.flock(descriptor, kind | fcntl.LOCK_NB)
+        lock(descriptor, kind)
     except BlockingIOError:
         return False
     except OSError as error:

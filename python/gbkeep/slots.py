@@ -11,7 +11,6 @@ it before sees then that it has no name. A SAVE with more names than one is not 
 SAVE may be a link, which stays one. Of the files beside it no link is followed, and none of another user is taken: whoever may write the folder could
 have put it there."""
 import contextlib
-import fcntl
 import hashlib
 import os
 import re
@@ -23,6 +22,7 @@ from typing import Optional
 from .game import Refused, run
 from .input_files import MOST_CART, MOST_SAVE, SECTOR, Planted, WrongInput, is_there, open_plain, owners_beside, printable, read_bytes, reason
 from .new_files import Unsafe, give_name, give_owner, has_name, is_locked, name_beside, open_new, sync_folder
+from .system import EXCLUSIVE, SHARED
 from .timed_game import SaveTime, WrongTime, merged
 
 PIECE = 1 << 20
@@ -63,7 +63,7 @@ class Held:
 
     def __init__(self, path: str, kind: Optional[int] = None, owners: Optional[Container[int]] = None):
         self.path = path
-        self.descriptor = open_plain(path, owners, os.O_RDWR if kind == fcntl.LOCK_EX else os.O_RDONLY, short(path))
+        self.descriptor = open_plain(path, owners, os.O_RDWR if kind == EXCLUSIVE else os.O_RDONLY, short(path))
         try:
             if kind is not None and not is_locked(self.descriptor, kind):
                 raise NotReplaced(f'{short(path)} is in use')
@@ -150,7 +150,7 @@ class Slots:
             if is_there(self.slot):
                 if has_name(game.descriptor, self.slot):
                     raise NotReplaced(f'{short(self.slot)} is {short(self.save)} itself')
-                old = until_done.enter_context(Held(self.slot, fcntl.LOCK_EX, owners_beside(self.save)))
+                old = until_done.enter_context(Held(self.slot, EXCLUSIVE, owners_beside(self.save)))
                 if old.content:
                     self.check_kind(old)
                     before = self.keep_before(old, self.slot, game.content)
@@ -168,7 +168,7 @@ class Slots:
         """Puts a copy of the slot in the place of SAVE, whose program has ended. Answers the name of the copy of the game that it replaces, if one was
         made."""
         target = os.path.realpath(self.save)
-        with told_in_a_line(), Held(target, fcntl.LOCK_EX) as old, Held(self.slot, fcntl.LOCK_SH, owners_beside(self.save)) as slot:
+        with told_in_a_line(), Held(target, EXCLUSIVE) as old, Held(self.slot, SHARED, owners_beside(self.save)) as slot:
             if not left.is_at(target) or left.content != old.content:
                 raise NotReplaced(f'{short(self.save)} was changed meanwhile by something else')
             if old.status.st_nlink > 1:
@@ -246,7 +246,7 @@ def stands_in(content: bytes, path: str, replaced: str, owners: Container[int]) 
     try:
         if os.path.realpath(path) == replaced or os.path.getsize(path) != len(content):
             return False
-        with Held(path, fcntl.LOCK_SH, owners) as copy:
+        with Held(path, SHARED, owners) as copy:
             if copy.content != content:
                 return False
             os.fsync(copy.descriptor)

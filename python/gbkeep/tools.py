@@ -11,6 +11,7 @@ from typing import NoReturn, Optional
 
 from .input_files import MOST_LINE, WrongInput, number, printable, reason
 from .new_files import Unsafe
+from .system import IS_POSIX
 
 
 class WrongWords(Exception):
@@ -77,7 +78,7 @@ def ends(*_: object) -> NoReturn:
 
 def run_tool(main: Callable[[list[str]], Optional[int]], usage: Optional[str] = None) -> NoReturn:
     """Runs a tool on the words of its process, and ends it. Without `usage` the tool tells its help itself."""
-    for sign in (signal.SIGTERM, signal.SIGHUP):
+    for sign in (signal.SIGTERM, *([signal.SIGHUP] if IS_POSIX else [])):
         # one that is ignored stays so, as of what `nohup` starts
         if signal.getsignal(sign) == signal.SIG_DFL:
             signal.signal(sign, ends)

@@ -45,6 +45,7 @@ from .game import find_program, starting
 from .library import loaded
 from .machines import Refused
 from .palettes import PALETTES
+from .system import IS_POSIX
 from .tools import Words, count_word, name_of_tool, say
 
 
@@ -67,6 +68,8 @@ def words_of(given: list[str]) -> argparse.Namespace:
 
 def lacks() -> str:
     """What is missing for a window, as a line; nothing where all is there."""
+    if not IS_POSIX:
+        return 'the window needs a desktop of Linux: here RetroArch plays by the core, or a browser by the page'
     try:
         import gi
         for name, version in (('Gdk', '4.0'), ('Gtk', '4.0'), ('Adw', '1')):

@@ -2,7 +2,6 @@
 
 What is said and asked goes to the face that is given, as the play's thread shows it."""
 import contextlib
-import fcntl
 import os
 import tempfile
 import time
@@ -17,6 +16,7 @@ from ..palettes import PALETTES
 from ..pictures import HEIGHT, WIDTH, png_of
 from ..shown_game import Played, memory_folder, shown
 from ..slots import Held, NotReplaced, Slots, short, slot_of, told_in_a_line
+from ..system import EXCLUSIVE
 from ..timed_game import SaveTime, TimedGame, WrongTime, span
 from ..tools import Failed
 from . import words
@@ -216,7 +216,7 @@ def put_aside(cart: str, save: str, program: str) -> Optional[str]:
     if os.path.lexists(f'{os.path.realpath(save)}.recorded'):
         raise Stopped(Told(f'{short(save)} is a recorded game', 'It goes on with its recording. Open its cartridge with another save file to begin anew.'))
     slots = Slots(cart, save, program, header_of(cart, program).has_clock())
-    with told_in_a_line(), Held(os.path.realpath(save), fcntl.LOCK_EX) as old:
+    with told_in_a_line(), Held(os.path.realpath(save), EXCLUSIVE) as old:
         made = slots.keep_before(old, save, b'')
         os.unlink(os.path.realpath(save))
         with contextlib.suppress(FileNotFoundError):

@@ -1,5 +1,4 @@
 """Refusals in words for players: what happened, and then which file it is about and what to do."""
-import fcntl
 import os
 import re
 from dataclasses import dataclass
@@ -9,6 +8,7 @@ from ..input_files import MOST_LINE, WrongInput, open_plain, printable, reason
 from ..machines import MissingProgram, Refused
 from ..new_files import Unsafe, is_locked
 from ..slots import NotReplaced, short
+from ..system import SHARED
 from ..timed_game import WrongTime
 from ..tools import Failed
 from .actions import WrongKeys
@@ -96,7 +96,7 @@ def is_played(save: object) -> bool:
     except (OSError, WrongInput):
         return False
     try:
-        return not is_locked(descriptor, fcntl.LOCK_SH)
+        return not is_locked(descriptor, SHARED)
     except OSError:
         return False
     finally:
