@@ -27,7 +27,8 @@ PROCESSOR = '"target-cpu"="x86-64-v2"'
 TABLE = Table(target='x86_64-unknown-linux-gnu', triple=TRIPLE,
               layout='e-m:e-p270:32:32-p271:32:32-p272:64:64-i64:64-i128:128-f80:128-n8:16:32:64-S128',
               layout_then='e-m:w-p270:32:32-p271:32:32-p272:64:64-i64:64-i128:128-f80:128-n8:16:32:64-S128',
-              processor=PROCESSOR, processor_then=PROCESSOR, left_out=('"probe-stack"="inline-asm"', '"stack-probe-size"="4096"'))
+              processor=PROCESSOR, processor_then=PROCESSOR, left_out=('"probe-stack"="inline-asm"', '"stack-probe-size"="3072"'),
+              own=frozenset({'llvm.x86.ssse3.pshuf.b.128'}))
 LEFT = ('gbkeep.dll', 'libgbkeep.dll.a', 'libgbkeep.a', 'gbkeep.h')
 FLAGS = ['-std=c11', '-O2', '-Wall', '-Wextra', '-Werror', f'-ffile-prefix-map={TOP}=.']
 # no time of the build stands in what is linked

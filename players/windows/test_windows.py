@@ -22,6 +22,8 @@ from gbkeep.palettes import PALETTES
 from gbkeep.save_files import Cartridge, looked_at
 from gbkeep_tests.support import CART, clock_cart, expect, run_tests, tests_in
 from scripts import windows
+from scripts.changed_module import changed
+from scripts.memory32 import Unknown
 
 HERE = Path(__file__).resolve().parent
 TOP = HERE.parent.parent
@@ -40,7 +42,7 @@ TWICE = 'This game is open twice: nothing that is played here is saved'
 # behind a state of the library's: until when the clock was given, and the number of a frame
 STATE_MORE = 16
 program = 'bin/gbkeep'
-made = {}
+made, started = {}, []
 
 
 # ---- wine, and what it runs
@@ -49,9 +51,9 @@ def begin(room):
     """Wine with a folder of its own, and the programs that it runs."""
     os.environ.update(WINEPREFIX=str(room / 'wine'), WINEDEBUG='-all', WINEDLLOVERRIDES='mscoree,mshtml=', HOME=str(room))
     os.environ.pop('DISPLAY', None)
-    done = subprocess.run([WINE, 'wineboot', '-i'], capture_output=True, text=True, timeout=240)
-    if done.returncode != 0:
-        sys.exit(f'test_windows.py: {WINE} does not start: {done.stdout}{done.stderr}')
+    silent = {'stdout': subprocess.DEVNULL, 'stderr': subprocess.DEVNULL}
+    if subprocess.run([WINE, 'wineboot', '-i'], timeout=240, **silent).returncode != 0:
+        sys.exit(f'test_windows.py: {WINE} does not start')
     made['front_end'] = compiled(room / 'front_end.exe', HERE / 'front_end.c', f'-I{HEADERS}')
     made['files'] = compiled(room / 'files.exe', HERE / 'files.c', TOP / 'players/libretro/files_windows.c', f'-I{TOP / "players/libretro"}')
     # over the DLL, by its import library
@@ -60,6 +62,17 @@ def begin(room):
     made['calls here'] = room / 'calls'
     subprocess.run([os.environ.get('CC') or 'cc', '-std=c11', '-O1', '-Wall', '-Wextra', f'-I{TOP / "bin"}', '-o', made['calls here'], HERE / 'calls.c',
                     TOP / 'bin/libgbkeep.a'], check=True)
+    # wine's own processes are there as long as any other is, and have what the first one writes to
+    started.append(subprocess.Popen([WINE, made['front_end'], CORE], stdin=subprocess.PIPE, **silent))
+
+
+def end():
+    """Ends what was started. Wine ends a while behind its last program, and writes into its folder until then."""
+    for process in started:
+        if process.poll() is None:
+            process.kill()
+            process.wait()
+    subprocess.run([Path(shutil.which(WINE)).parent / 'wineserver', '-w'], timeout=60, stderr=subprocess.DEVNULL)
 
 
 def compiled(out, *words):
@@ -72,6 +85,7 @@ class Front:
 
     def __init__(self, folder, core=CORE):
         self.process = subprocess.Popen([WINE, made['front_end'], core], stdin=subprocess.PIPE, stdout=subprocess.PIPE, stderr=subprocess.PIPE)
+        started.append(self.process)
         self.told = []
         self.obey(b'save ' + os.fsencode(folder))
 
@@ -156,6 +170,34 @@ def stands_for(save):
 
 
 # ---- the tests
+
+def test_changes(room):
+    """What is changed of the module that the toolchain hands to clang, and what ends that."""
+    table = windows.TABLE
+    module = f'''source_filename = "x"
+target datalayout = "{table.layout}"
+target triple = "{table.target}"
+define i32 @one(i32 %a) #0 {{
+  %b = call i32 @llvm.umin.i32(i32 %a, i32 7)
+  ret i32 %b
+}}
+declare {{ i64, i64 }} @rattle_alloc(i64, i64) #1
+declare i32 @llvm.umin.i32(i32, i32) #1
+attributes #0 = {{ nounwind "probe-stack"="inline-asm" "stack-probe-size"="3072" {table.processor} }}
+attributes #1 = {{ nounwind }}
+'''
+    text, changes = changed(module, table)
+    wanted = module.replace(table.layout, table.layout_then).replace(table.target, table.triple).replace(' "probe-stack"="inline-asm" "stack-probe-size"="3072"', '')
+    expect('the module', text, wanted)
+    expect('what is told', [line.split()[0] for line in changes], ['layout', 'triple', 'left', 'from'])
+    for old, new in ((table.layout, 'e-m:e'), (table.target, 'aarch64-unknown-linux-gnu'), ('@llvm.umin.i32', '@llvm.x86.sse2.pause'), ('@llvm.umin.i32', '@llvm.sqrt.f64'),
+                     ('rattle_alloc', 'malloc'), ('3072', '8192'), ('x86-64-v2', 'x86-64-v4'), ('nounwind }', 'strictfp }'), ('  ret', '  call void asm "nop", ""()\n  ret')):
+        try:
+            changed(module.replace(old, new), table)
+            expect(f'{new} is refused', True, False)
+        except Unknown:
+            pass
+
 
 def test_calls(room):
     """Each call of gbkeep.h answers in gbkeep.dll what it answers here, to the last bit."""
@@ -315,7 +357,7 @@ def test_faults(room):
 def test_two(room):
     """Two front ends, or two cores in one: one has the game, the other one says so, and what the first one saves stays. Two that begin one game make one."""
     first, second = Front(room), Front(room)
-    first.obey(f'load {CART}', 'frames 00 130', 'wait 300')
+    first.obey(f'load {CART}', 'frames 00 130', 'wait 300', 'frames 00 1')
     expect('the first', (first.until('loaded'), first.until('waited')), ('1', ''))
     second.obey(f'load {CART}', 'frames 10 130', 'unload')
     expect('the second', (second.end(), second.told[0], second.saved()), (0, ELSEWHERE, 0))
@@ -326,7 +368,7 @@ def test_two(room):
     expect('what is told there', first.told[-1], TWICE)
     expect('the first goes on', first.end(), 0)
     with Machine(CART) as machine:
-        wanted = states([(0, 130)], machine)
+        wanted = states([(0, 131)], machine)
     count, digest = stands_for(room / 'demo.gbkeep')
     expect('what it stands for', (count >= first.saved() >= 60, digest == wanted[count]), (True, True))
     for turn in range(5):
@@ -414,8 +456,7 @@ def main():
         try:
             run_tests('Windows', tests_in(globals()), lambda one: (one,), sys.argv[2:])
         finally:
-            # wine ends a while behind its last program, and writes into its folder until then
-            subprocess.run([Path(shutil.which(WINE)).resolve().parent / 'wineserver', '-w'], timeout=60, stderr=subprocess.DEVNULL)
+            end()
 
 
 if __name__ == '__main__':
