@@ -74,6 +74,11 @@ class Wheels(unittest.TestCase):
         # without the program that is a line
         status, out, err = ran(self.bin / 'gbkeep-run-tests', DEMO, cwd=self.room)
         self.assertEqual((status, err.count('\n'), "can't be run" in err), (1, 1, True), err)
+        # the example's test: a picture is made, then compared, and another one is told
+        same = [self.bin / 'python', TOP / 'examples/wheels/same_picture.py', DEMO]
+        for frames, status, line in (('60', 0, 'title.png is made'), ('60', 0, 'shows title.png'), ('0', 1, 'shows another picture after 0 frames')):
+            code, out, err = ran(*same, frames, 'title.png', cwd=self.room)
+            self.assertEqual((code, line in out + err, (out + err).count('\n')), (status, True, 1), out + err)
         (self.room / 'in.pgm').write_bytes(b'P2\n160 144\n3\n' + (b'3 ' * 159 + b'3\n') * 144)
         self.assertEqual(ran(self.bin / 'gbkeep-png', self.room / 'in.pgm', self.room / 'out.png')[::2], (0, ''))
         self.assertEqual(ran(pip, 'uninstall', '-y', '--disable-pip-version-check', 'gbkeep')[::2], (0, ''))
@@ -95,7 +100,7 @@ class Wheels(unittest.TestCase):
             with self.subTest(name=name), zipfile.ZipFile(self.wheel(name)) as wheel:
                 files = {one: wheel.read(one) for one in wheel.namelist()}
                 about = next(one.partition('/')[0] for one in files if one.endswith('/RECORD'))
-                self.assertEqual(sum(one.startswith('gbkeep/lib') or one.endswith('.dll') for one in files), 1)
+                self.assertEqual(sum(one.startswith('gbkeep/libgbkeep') or one.endswith('.dll') for one in files), 1)
                 self.assertIn(b'No licence is given yet', files[f'{about}/METADATA'])
                 self.assertEqual({one.partition('/')[0] for one in files}, {'gbkeep', about})
                 record = dict(line.split(',', 1) for line in files[f'{about}/RECORD'].decode().splitlines())

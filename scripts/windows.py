@@ -31,8 +31,8 @@ TABLE = Table(target='x86_64-unknown-linux-gnu', triple=TRIPLE,
               own=frozenset({'llvm.x86.ssse3.pshuf.b.128'}))
 LEFT = ('gbkeep.dll', 'libgbkeep.dll.a', 'libgbkeep.a', 'gbkeep.h')
 FLAGS = ['-std=c11', '-O2', '-Wall', '-Wextra', '-Werror', f'-ffile-prefix-map={TOP}=.']
-# no time of the build stands in what is linked
-LINK = ['-shared', '-s', '-static-libgcc', '-Wl,--gc-sections', '-Wl,--no-insert-timestamp']
+# no time and no place of the build stands in what is linked: without an address that is given, the linker makes one of the file's path
+LINK = ['-shared', '-s', '-static-libgcc', '-Wl,--gc-sections', '-Wl,--no-insert-timestamp', '-Wl,--image-base,0x180000000']
 TAKEN = {'kernel32.dll', 'msvcrt.dll'}
 
 

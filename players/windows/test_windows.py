@@ -35,9 +35,11 @@ WINE = os.environ.get('WINE') or 'wine'
 # the status of a process that its front end has ended, as the front end names it
 KILLED = 137
 MOMENTS, AT_ONCE = 100, 4
-# what is played where it is killed: behind the game's first frames the power switch, a state that is taken back, and frames on both sides of each save
-PLAY = [(0, 70), (START, 4), (RIGHT | A, 66), 'reset', (0, 10), 'keep', (LEFT, 70), 'back', (RIGHT, 130), (UP, 61)]
+# what is played where it is killed: frames on both sides of each save, the power switch, and a state that is taken back; while it waits, a save is made
+WAIT = 'wait 30'
+PLAY = [(0, 70), WAIT, (START, 4), (RIGHT | A, 66), WAIT, 'reset', (0, 10), 'keep', (LEFT, 70), WAIT, 'back', (RIGHT, 62), WAIT, (RIGHT, 68), WAIT, (UP, 61), WAIT]
 ELSEWHERE = "SAVE is open elsewhere, or can't be read or written"
+EXISTS = "device failed: SAVE exists already, or it can't be made"
 TWICE = 'This game is open twice: nothing that is played here is saved'
 # behind a state of the library's: until when the clock was given, and the number of a frame
 STATE_MORE = 16
@@ -62,8 +64,10 @@ def begin(room):
     made['calls here'] = room / 'calls'
     subprocess.run([os.environ.get('CC') or 'cc', '-std=c11', '-O1', '-Wall', '-Wextra', f'-I{TOP / "bin"}', '-o', made['calls here'], HERE / 'calls.c',
                     TOP / 'bin/libgbkeep.a'], check=True)
-    # wine's own processes are there as long as any other is, and have what the first one writes to
-    started.append(subprocess.Popen([WINE, made['front_end'], CORE], stdin=subprocess.PIPE, **silent))
+    # wine's own processes are there as long as any other is, and keep what the first one writes to: so this one stays, and nobody waits for its end
+    first = Front(room)
+    first.obey('wait 1')
+    first.until('waited')
 
 
 def end():
@@ -144,6 +148,7 @@ def states(what, machine, first=()):
     for one in what:
         if one == 'keep':
             kept = machine.state()
+        if one in ('keep', WAIT):
             continue
         for _ in range(one[1] if isinstance(one, tuple) else 1):
             if one == 'back':
@@ -286,8 +291,8 @@ def test_killed(room):
     counts = {count for _, count in ends if count is not None}
     print(f'killed before {len(moments)} of {calls} calls: {sum(killed for killed, _ in ends)} were killed, {sum(count is None for _, count in ends)} without a game,'
           f' {len(counts)} counts of inputs left')
-    # a play may make fewer calls than the first did, where two saves fall together
-    expect('most were killed', sum(killed for killed, _ in ends) >= MOMENTS * 8 // 10, True)
+    # on a busy computer two saves may fall together: fewer calls than those of the first play
+    expect('most were killed', sum(killed for killed, _ in ends) >= MOMENTS * 9 // 10, True)
     expect('some have no game yet, others have many counts', (any(count is None for _, count in ends), len(counts) > 3), (True, True))
 
 
@@ -382,10 +387,11 @@ def test_two(room):
             front.obey('unload')
         for front in fronts:
             front.end()
-        have = [front.told for front in fronts if front.told[0] == 'resumed 0']
-        expect(f'turn {turn}: those that have it first, and the others', (len(have) >= 1, {tuple(front.told) for front in fronts if front.told[0][:7] != 'resumed'} <= {(ELSEWHERE,)}), (True, True))
+        begun = [front.told[0] for front in fronts]
+        expect(f'turn {turn}: {begun}', set(begun) <= {'resumed 0', 'resumed 10', ELSEWHERE, EXISTS} and begun.count('resumed 0') == 1, True)
+        expect('those that have none', {len(front.told) for front in fronts if not front.told[0].startswith('resumed')} <= {1}, True)
         expect('what lies there', sorted(path.name for path in folder.iterdir()), ['demo.gbkeep'])
-        expect('what it stands for', stands_for(folder / 'demo.gbkeep')[0] >= 10, True)
+        expect('what it stands for', stands_for(folder / 'demo.gbkeep')[0], max(front.saved() for front in fronts))
 
 
 def test_names(room):
