@@ -200,6 +200,7 @@ play: bin/gbkeep bin/libgbkeep.so
 
 CC ?= cc
 LIBRETRO ?= /usr/include/libretro-common
+export CC_WINDOWS ?= x86_64-w64-mingw32-gcc
 
 CORE := scripts/libretro.py $(wildcard players/libretro/*.c players/libretro/*.h players/libretro/Makefile* players/libretro/link.T) \
   players/libretro/tables_h.py python/gbkeep/faults.py python/gbkeep/palettes.py
@@ -261,7 +262,8 @@ test-web: bin/gbkeep bin/libgbkeep.so
 wheels: bin/libgbkeep.so
 	python3 -B packaging/wheels.py
 
-dist: $(OUT)/gbkeep $(OUT)/libgbkeep.so $(if $(wildcard $(LIBRETRO)/libretro.h),$(OUT)/gbkeep_libretro.so)
+dist: $(OUT)/gbkeep $(OUT)/libgbkeep.so $(if $(wildcard $(LIBRETRO)/libretro.h),$(OUT)/gbkeep_libretro.so) \
+  $(if $(ARCH),,$(if $(shell command -v $(CC_WINDOWS)),bin/windows/gbkeep.dll))
 	$(if $(ARCH),,RT=$(RT) python3 -B scripts/web.py bin/web)
 	RT=$(RT) python3 -B packaging/dist.py $(ARCH)
 

@@ -252,7 +252,7 @@ LEFT_OUT = {
                  'eslint': 'the scripts of the page are not looked at by it', 'sanitizers': 'the heap is tried without them'},
     'test-arm64': {'qemu-aarch64': 'no instruction is counted', 'valgrind': 'no instruction of this computer is counted', 'libretro.h': 'the core is not tried',
                    'cc': 'the core is not tried'},
-    'dist': {'libretro.h': 'there is no package of the core', 'cc': 'there is no package of the core'},
+    'dist': {'libretro.h': 'there is no package of the core', 'cc': 'there is no package of the core', 'gcc for Windows': 'there is no wheel for Windows'},
 }
 
 
@@ -302,8 +302,8 @@ def parts_of(target, arm64):
     """What a target needs, and the files that it is made of, for this computer or for aarch64."""
     own, files = TARGETS.get(target) or ((), (target,) if target in FILES else ())
     if target == 'dist':
-        # the package of the core is made where the core can be
-        files += ('OUT/gbkeep_libretro.so',) * is_there('libretro.h')
+        # the package of the core is made where the core can be, and so is the wheel for Windows
+        files += ('OUT/gbkeep_libretro.so',) * is_there('libretro.h') + ('bin/windows/gbkeep.dll',) * (is_there('gcc for Windows') and not arm64)
         # the page is made for all computers with what is made for this one
         own = tuple('binutils for aarch64' if arm64 and need == 'strip' else need for need in own if not (arm64 and need == 'clang of rt'))
     return own, [name.replace('OUT', 'bin/arm64' if arm64 else 'bin') for name in files]

@@ -151,7 +151,7 @@ def test_missing(folder):
     wanted = {target: {*own, *(need for file in files for need in needs_of(file))} for target, (own, files) in doctor.TARGETS.items()}
     # what each computer has, and what is looked for in places that are no part of the search path
     here = {'bash', *(need for need in doctor.NEEDS if shutil.which(need, path=doctor.ALSO))}
-    here |= {need for need in ('root', 'libretro.h', 'C library for aarch64', 'GTK', 'Atspi', 'selenium') if doctor.is_there(need)}
+    here |= {need for need in ('root', 'libretro.h', 'C library for aarch64', 'GTK', 'Atspi', 'selenium', 'venv') if doctor.is_there(need)}
     says = 'from scripts import doctor\nfor target in doctor.TARGETS: print(target, *doctor.missing(*doctor.asked(target)), sep="|")'
     status, out, err = room.python('-c', says)
     expect('status and errors', (status, err), (0, ''))
