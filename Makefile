@@ -223,7 +223,7 @@ windows: bin/windows/gbkeep_libretro.dll
 # the calls of the library, and the core in a front end, by wine; the package of Python without what that system lacks; and what pip takes
 test-windows: bin/gbkeep bin/libgbkeep.so bin/windows/gbkeep_libretro.dll
 	CC="$(CC)" LIBRETRO="$(LIBRETRO)" python3 -B players/windows/test_windows.py bin/gbkeep
-	python3 -B python/gbkeep_tests/test_other_system.py
+	$(NUMPY_PYTHON) -B python/gbkeep_tests/test_other_system.py
 	python3 -B packaging/test_wheels.py
 
 $(OUT)/libgbkeep.so: $(SOURCES) $(wildcard library/*) scripts/library.py $(if $(ARCH),scripts/arm64/target.py) | $(LOOK)

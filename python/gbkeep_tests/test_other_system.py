@@ -6,6 +6,7 @@ import contextlib
 import hashlib
 import importlib
 import importlib.abc
+import importlib.util
 import io
 import ntpath
 import os
@@ -19,7 +20,8 @@ import unittest
 
 TOP = pathlib.Path(__file__).resolve().parent.parent.parent
 DEMO = TOP / 'examples/demo/demo.gb'
-MODULES = {'fcntl', 'grp', 'posix', 'pty', 'pwd', 'readline', 'resource', 'spwd', 'syslog', 'termios', 'tty'}
+# a desktop of GTK among it
+MODULES = {'fcntl', 'gi', 'grp', 'posix', 'pty', 'pwd', 'readline', 'resource', 'spwd', 'syslog', 'termios', 'tty'}
 CALLS = '''chown fchmod fchown fdatasync fork forkpty getegid geteuid getgid getpgid getpgrp getsid getuid killpg lchown lockf memfd_create mkfifo mknod nice openpty
     pipe2 posix_fallocate posix_spawn pread preadv pwrite pwritev sched_getaffinity sendfile set_blocking setsid statvfs sync uname wait3 wait4
     O_CLOEXEC O_DIRECTORY O_DSYNC O_NOCTTY O_NOFOLLOW O_NONBLOCK O_PATH O_SYNC WNOHANG'''.split()
@@ -45,6 +47,8 @@ def other_system(has_other_paths=False):
     test that imports alone."""
     for name in OF_PYTHON:
         importlib.import_module(name)
+    with contextlib.suppress(ImportError):
+        importlib.import_module('numpy')
     kept = dict(vars(os)), dict(vars(signal)), dict(sys.modules), sys.platform, dict(vars(ntpath))
     finder = Missing()
     sys.meta_path.insert(0, finder)
@@ -114,6 +118,18 @@ class OtherSystem(unittest.TestCase):
             self.assertEqual((session.state(), session.picture().shades), (state, shades))
         with Session(cart, (self.room / 'SAVE').read_bytes()) as session:
             self.assertEqual((session.count, hashlib.sha256(session.state()).digest()), (64, hashlib.sha256(state).digest()))
+
+    @unittest.skipIf(importlib.util.find_spec('numpy') is None, 'numpy is missing')
+    def test_an_environment_plays(self):
+        from gbkeep import RIGHT
+        from gbkeep.env import Environment
+        with Environment(str(DEMO), actions=(0, RIGHT), frames=4, watch=[(0xc001, 2)], reward=lambda before, after: after[0] - before[0]) as env:
+            first, _ = env.reset(seed=1)
+            place = env.state()
+            steps = [env.step(1) for _ in range(20)]
+            env.restore(place)
+            again = [env.step(1) for _ in range(20)]
+        self.assertEqual([(one[0].tolist(), *one[1:4]) for one in steps], [(one[0].tolist(), *one[1:4]) for one in again])
 
     def told(self, module, *words):
         """The status of a tool, and its lines on standard error."""
