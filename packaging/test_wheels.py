@@ -29,7 +29,6 @@ with Machine(sys.argv[1]) as machine, open(sys.argv[2], 'w+b', buffering=0) as f
     session.make_calls(file)
     print(json.dumps([find_library(), machine.state() == session.state(), session.count]))
 '''
-FOR_OTHERS = {'windows': 'win_amd64', 'aarch64': 'manylinux_2_28_aarch64'}
 
 
 def ran(*words, **how):
@@ -85,9 +84,10 @@ class Wheels(unittest.TestCase):
         self.assertEqual([path.name for path in (self.room / 'own').rglob('*gbkeep*')], [])
 
     def test_what_pip_takes_for_other_systems(self):
-        for name, platform in FOR_OTHERS.items():
+        for name in ('windows', 'aarch64'):
             with self.subTest(name=name):
                 wheel, place = self.wheel(name), self.room / name
+                platform = wheel.stem.rsplit('-', 1)[1]
                 words = [self.bin / 'pip', 'install', '--no-index', '--no-deps', '--only-binary=:all:', '--disable-pip-version-check', '--target', place]
                 self.assertEqual(ran(*words, '--platform', platform, wheel)[::2], (0, ''))
                 library = place / 'gbkeep' / wheels.BUILT[name][1]
