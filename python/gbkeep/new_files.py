@@ -153,7 +153,7 @@ def new_file(path: PathLike, inputs: Iterable[PathLike] = (), text: bool = False
         except OSError as error:
             is_made = False
             raise Unsafe(f'{printable(path)}: {reason(error)}') from None
-        with open(descriptor, 'w' if text else 'wb', **({'encoding': 'utf-8'} if text else {})) as file:
+        with open(descriptor, 'w' if text else 'wb', **({'encoding': 'utf-8', 'newline': '\n'} if text else {})) as file:
             if IS_POSIX:
                 if not must_be_new:
                     keep_mode(target, descriptor)

@@ -87,7 +87,8 @@ def run_tool(main: Callable[[list[str]], Optional[int]], usage: Optional[str] = 
         sys.exit(1)
     for stream in (sys.stdout, sys.stderr):
         if stream is not None:
-            stream.reconfigure(errors='backslashreplace')
+            # the same bytes on each system
+            stream.reconfigure(errors='backslashreplace', newline='\n', **({} if IS_POSIX else {'encoding': 'utf-8'}))
     status = told(main, usage, sys.argv[1:])
     try:
         sys.stdout.flush()
