@@ -29,6 +29,7 @@ TABLE = Table(target='x86_64-unknown-linux-gnu', triple=TRIPLE,
               layout_then='e-m:w-p270:32:32-p271:32:32-p272:64:64-i64:64-i128:128-f80:128-n8:16:32:64-S128',
               processor=PROCESSOR, processor_then=PROCESSOR, left_out=('"probe-stack"="inline-asm"', '"stack-probe-size"="3072"'),
               own=frozenset({'llvm.x86.ssse3.pshuf.b.128'}))
+OBJECTS = ('proved.o', 'heap.o', 'gbkeep.o')
 LEFT = ('gbkeep.dll', 'libgbkeep.dll.a', 'libgbkeep.a', 'gbkeep.h')
 FLAGS = ['-std=c11', '-O2', '-Wall', '-Wextra', '-Werror', f'-ffile-prefix-map={TOP}=.']
 # no time and no place of the build stands in what is linked: without an address that is given, the linker makes one of the file's path
@@ -53,16 +54,19 @@ def check(path, gives):
 def build(toolchain, room, text):
     """The library in a folder, of the changed module."""
     (room / 'proved.ll').write_text(text, encoding='utf-8')
-    objects = [room / 'proved.o', room / 'heap.o', room / 'gbkeep.o']
-    compiled(toolchain, room / 'proved.ll', TRIPLE, objects[0])
-    compiled(toolchain, LIBRARY / 'heap_windows.ll', TRIPLE, objects[1])
-    run([CC, *FLAGS, '-c', LIBRARY / 'gbkeep.c', '-o', objects[2]])
-    run([f'{PREFIX}ar', 'rcD', room / 'libgbkeep.a', *objects])
-    (room / 'gbkeep.def').write_text('EXPORTS\n' + ''.join(f'{name}\n' for name in calls()), encoding='utf-8')
-    # the names of what it is linked of stand in the import library
-    run([CC, 'gbkeep.def', *(one.name for one in objects), *LINK, '-Wl,--out-implib,libgbkeep.dll.a', '-o', 'gbkeep.dll'], cwd=room)
+    compiled(toolchain, room / 'proved.ll', TRIPLE, room / 'proved.o')
+    compiled(toolchain, LIBRARY / 'heap_windows.ll', TRIPLE, room / 'heap.o')
+    run([CC, *FLAGS, '-c', LIBRARY / 'gbkeep.c', '-o', room / 'gbkeep.o'])
+    run([f'{PREFIX}ar', 'rcD', 'libgbkeep.a', *OBJECTS], cwd=room)
+    link(room)
     (room / 'gbkeep.h').write_bytes((LIBRARY / 'gbkeep.h').read_bytes())
     check(room / 'gbkeep.dll', calls())
+
+
+def link(room):
+    """Links what is compiled in a folder. The names of the objects stand in the import library."""
+    (room / 'gbkeep.def').write_text('EXPORTS\n' + ''.join(f'{name}\n' for name in calls()), encoding='utf-8')
+    run([CC, 'gbkeep.def', *OBJECTS, *LINK, '-Wl,--out-implib,libgbkeep.dll.a', '-o', 'gbkeep.dll'], cwd=room)
 
 
 def main():

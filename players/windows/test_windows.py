@@ -21,7 +21,7 @@ from gbkeep.game import run
 from gbkeep.palettes import PALETTES
 from gbkeep.save_files import Cartridge, looked_at
 from gbkeep_tests.support import CART, clock_cart, expect, run_tests, tests_in
-from scripts import windows
+from scripts import libretro, windows
 from scripts.changed_module import changed
 from scripts.memory32 import Unknown
 
@@ -202,6 +202,18 @@ attributes #1 = {{ nounwind }}
             expect(f'{new} is refused', True, False)
         except Unknown:
             pass
+
+
+def test_same_bytes(room):
+    """What is linked again, in another folder and at another time, has the same bytes; it takes nothing of another library than kernel32 and msvcrt."""
+    subprocess.run([f'{windows.PREFIX}ar', 'x', BUILT / 'libgbkeep.a'], cwd=room, check=True)
+    windows.link(room)
+    make = ['make', '-s', '-C', TOP / 'players/libretro', 'platform=win', f'CC={windows.CC}', f'PYTHON={sys.executable}', f'GBKEEP={BUILT}', f'LIBRETRO={HEADERS}']
+    subprocess.run([*make, f'BUILD={room / "build"}', f'TARGET={room / CORE.name}'], check=True)
+    for name, gives in (('gbkeep.dll', windows.calls()), ('libgbkeep.dll.a', None), (CORE.name, libretro.calls(HEADERS))):
+        expect(name, (room / name).read_bytes() == (BUILT / name).read_bytes(), True)
+        if gives:
+            windows.check(BUILT / name, gives)
 
 
 def test_calls(room):
