@@ -8,6 +8,7 @@
  * state FILE       writes a state
  * picture          prints a sum of the pixels
  * wait COUNT       plays no frame for so many milliseconds
+ * settle           plays none until a sync was made since the last time, and no call for a file is made for a while
  * unload           ends the game
  * second CORE      from now on another core, a copy, in this process
  * kill COUNT       ends the process by TerminateProcess right before this call for a file from now on
@@ -24,6 +25,8 @@
 #include "libretro.h"
 
 enum { MOST_LINE = 8192, MOST_STATE = 1 << 20, KILLED = 137 };
+/* milliseconds: without a call, and without any */
+enum { STILL = 30, MOST_WAIT = 3000 };
 static const unsigned BUTTONS[8] = {
     RETRO_DEVICE_ID_JOYPAD_RIGHT, RETRO_DEVICE_ID_JOYPAD_LEFT, RETRO_DEVICE_ID_JOYPAD_UP, RETRO_DEVICE_ID_JOYPAD_DOWN,
     RETRO_DEVICE_ID_JOYPAD_A, RETRO_DEVICE_ID_JOYPAD_B, RETRO_DEVICE_ID_JOYPAD_SELECT, RETRO_DEVICE_ID_JOYPAD_START,
@@ -34,7 +37,7 @@ static uint8_t kept[MOST_STATE];
 static size_t kept_size;
 static uint64_t sum;
 static unsigned buttons;
-static volatile LONG calls, killed_at = -1, failing_at = -1, is_link;
+static volatile LONG calls, syncs, seen, killed_at = -1, failing_at = -1, is_link;
 static HMODULE core;
 
 static void *call(const char *name) {
@@ -66,7 +69,11 @@ static HANDLE WINAPI create(const wchar_t *name, DWORD access, DWORD shared, SEC
 static BOOL WINAPI write_file(HANDLE file, const void *bytes, DWORD size, DWORD *done, OVERLAPPED *at) {
     return !fails() && WriteFile(file, bytes, size, done, at);
 }
-static BOOL WINAPI flush(HANDLE file) { return !fails() && FlushFileBuffers(file); }
+static BOOL WINAPI flush(HANDLE file) {
+    BOOL good = !fails() && FlushFileBuffers(file);
+    InterlockedIncrement(&syncs);
+    return good;
+}
 static BOOL WINAPI lock(HANDLE file, DWORD flags, DWORD none, DWORD low, DWORD high, OVERLAPPED *at) {
     return !fails() && LockFileEx(file, flags, none, low, high, at);
 }
@@ -183,6 +190,14 @@ static void write_state(const char *name) {
     printf("state %d\n", good && fclose(file) == 0);
 }
 
+static void settle(void) {
+    for (int waited = 0; syncs == seen && waited < MOST_WAIT; waited++)
+        Sleep(1);
+    for (LONG last = -1; calls != last; Sleep(STILL))
+        last = calls;
+    seen = syncs;
+}
+
 static void obey(const char *word, const char *rest) {
     unsigned count = 0;
     if (strcmp(word, "save") == 0) {
@@ -191,6 +206,7 @@ static void obey(const char *word, const char *rest) {
         struct retro_game_info info = {cart, NULL, 0, NULL};
         snprintf(cart, sizeof cart, "%s", rest);
         printf("loaded %d\n", CALL(load_game)(&info));
+        seen = syncs;
     } else if (strcmp(word, "frames") == 0 && sscanf(rest, "%x %u", &buttons, &count) == 2) {
         for (; count > 0; count--)
             CALL(run)();
@@ -208,6 +224,8 @@ static void obey(const char *word, const char *rest) {
     } else if (strcmp(word, "wait") == 0) {
         Sleep((DWORD)atoi(rest));
         printf("waited\n");
+    } else if (strcmp(word, "settle") == 0) {
+        settle();
     } else if (strcmp(word, "unload") == 0) {
         CALL(unload_game)();
         printf("unloaded\n");

@@ -35,9 +35,8 @@ WINE = os.environ.get('WINE') or 'wine'
 # the status of a process that its front end has ended, as the front end names it
 KILLED = 137
 MOMENTS, AT_ONCE = 100, 4
-# what is played where it is killed: frames on both sides of each save, the power switch, and a state that is taken back; while it waits, a save is made
-WAIT = 'wait 30'
-PLAY = [(0, 70), WAIT, (START, 4), (RIGHT | A, 66), WAIT, 'reset', (0, 10), 'keep', (LEFT, 70), WAIT, 'back', (RIGHT, 62), WAIT, (RIGHT, 68), WAIT, (UP, 61), WAIT]
+# what is played where it is killed: frames on both sides of each save, the power switch, and a state that is taken back
+PLAY = [(0, 70), 'settle', (START, 4), (RIGHT | A, 66), 'settle', 'reset', (0, 10), 'keep', (LEFT, 70), 'settle', 'back', (RIGHT, 130), 'settle', (UP, 61), 'settle']
 ELSEWHERE = "SAVE is open elsewhere, or can't be read or written"
 EXISTS = "device failed: SAVE exists already, or it can't be made"
 TWICE = 'This game is open twice: nothing that is played here is saved'
@@ -148,7 +147,7 @@ def states(what, machine, first=()):
     for one in what:
         if one == 'keep':
             kept = machine.state()
-        if one in ('keep', WAIT):
+        if one in ('keep', 'settle'):
             continue
         for _ in range(one[1] if isinstance(one, tuple) else 1):
             if one == 'back':
