@@ -17,8 +17,8 @@ from .tools import Failed
 
 # an answer of the program
 MOST_ANSWER, MOST_BYTES, MOST_ROM = 1 << 12, 65_536, 8 << 20
-# as many places as a line takes, and steps as it makes
-MOST_PLACES, MOST_STEPS = 16, 0xffff_ffff
+# as many places or conditions as a line takes, and steps as it makes; and the bytes that it may have
+MOST_PLACES, MOST_STEPS, MOST_LINE = 16, 0xffff_ffff, 128
 # the bank that no place outside of ROM has: a run to it makes all its steps
 NOWHERE = '1:FEA0'
 # steps between two looks at whether a run is to end: more where they take less than some hundredths of a second, fewer where they take more
@@ -144,6 +144,9 @@ class Access:
     def line(self, count: int) -> str:
         return f'until-{"write" if self.is_write else "read"} {count} {self.first:04X}' + (f' {self.last:04X}' if self.last != self.first else '')
 
+    def conditions(self) -> str:
+        return f'{"write" if self.is_write else "read"} {self.first:04X}-{self.last:04X}'
+
 
 @dataclass(frozen=True)
 class Change:
@@ -152,6 +155,9 @@ class Change:
 
     def line(self, count: int) -> str:
         return f'until-change {count} {self.address:04X}'
+
+    def conditions(self) -> str:
+        return f'change {self.address:04X}'
 
 
 @dataclass(frozen=True)
@@ -162,6 +168,9 @@ class Opcode:
     def line(self, count: int) -> str:
         return f'until-op {count} {self.opcode:02X}'
 
+    def conditions(self) -> str:
+        return f'op {self.opcode:02X}'
+
 
 @dataclass(frozen=True)
 class Places:
@@ -169,7 +178,10 @@ class Places:
     places: tuple[Place, ...]
 
     def line(self, count: int) -> str:
-        return f'until {count} ' + ' '.join(place.word() for place in self.places)
+        return f'until {count} {self.conditions()}'
+
+    def conditions(self) -> str:
+        return ' '.join(place.word() for place in self.places)
 
 
 Stop = Union[Place, Access, Change, Opcode]
@@ -396,7 +408,8 @@ class Debuggee:
         self.keep(HERE)
         before = {one: self.memory(one.address, 1) for one in lines if isinstance(one, Change)}
         best, met, at = part, [], 0
-        for line in lines:
+        is_passed = len(lines) > 1 and self.is_passed(lines, part)
+        for line in () if is_passed else lines:
             if at:
                 self.back(HERE)
             # a stop behind as many steps as the first one is met, too
@@ -407,7 +420,7 @@ class Debuggee:
                     met.clear()
                 best = at
                 met.append(line)
-        if at != best or (met or len(lines) > 1) and self.told():
+        if not is_passed and (at != best or (met or len(lines) > 1) and self.told()):
             # what was sent was sent several times
             self.back(HERE)
             self.told()
@@ -416,12 +429,28 @@ class Debuggee:
             met = [line for line in lines if self.is_at_last(line, part, before)]
         return best, tuple(stop for line in met for stop in self.stops_of(line))
 
+    def is_passed(self, lines: list, part: int) -> bool:
+        """Whether so many steps from HERE on meet none of several lines, which one line of the program looks for, if it takes them. The machine is behind
+        these steps then, and else at HERE."""
+        together = f'continue {part} ' + ' '.join(line.conditions() for line in lines)
+        conditions = sum(len(line.places) if isinstance(line, Places) else 1 for line in lines)
+        if conditions > MOST_PLACES or len(together) > MOST_LINE:
+            return False
+        if not self.has_stopped(together):
+            return True
+        self.told()
+        self.back(HERE)
+        return False
+
     def stops_of(self, line: object) -> Iterable[Stop]:
         """The stops of a line that was met here."""
         return [one for one in line.places if self.is_at(one)] if isinstance(line, Places) else (line,)
 
     def is_stopped(self, line: object, count: int) -> bool:
-        answer = self.program.ask(line.line(count))
+        return self.has_stopped(line.line(count))
+
+    def has_stopped(self, line: str) -> bool:
+        answer = self.program.ask(line)
         if not answer.startswith(('stopped ', 'limit ')):
             raise self.program.strange(answer)
         return answer.startswith('stopped ')
