@@ -73,20 +73,72 @@ const ACCESSES: [bool; 256] = [
     true, true, true, false, false, true, false, true, false, false, true, false, false, false, false, true,
 ];
 
-/// A watch for one aim alone.
+/// A watch for an instruction with this opcode.
 #[derive(Clone, Copy)]
-pub(crate) struct OneWatch {
-    pub(crate) aim: Aim,
+pub(crate) struct OpcodeWatch {
+    pub(crate) opcode: u8,
 }
 
-impl Watch for OneWatch {
-    ghost use Rattle.debugging.specs.Quiet.{is_aim};
+/// A watch for another byte than this at an address.
+#[derive(Clone, Copy)]
+pub(crate) struct ChangeWatch {
+    pub(crate) address: u16,
+    pub(crate) byte: u8,
+}
 
-    ghost passes = { λ watch p. is_aim p watch.aim ≡ false };
+/// A watch for a step that writes one of these addresses.
+#[derive(Clone, Copy)]
+pub(crate) struct WriteWatch {
+    pub(crate) span: Span,
+}
+
+/// A watch for a step that reads one of these addresses.
+#[derive(Clone, Copy)]
+pub(crate) struct ReadWatch {
+    pub(crate) span: Span,
+}
+
+impl Watch for OpcodeWatch {
+    ghost use Rattle.debugging.specs.Run.{is_before};
+
+    ghost passes = { λ watch p. is_before watch.opcode p ≡ false };
 
     #[inline(always)]
     fn may_end(&self, processor: &Processor<Bus>) -> bool {
-        may_be(self.aim, processor)
+        will_run(self.opcode, processor)
+    }
+}
+
+impl Watch for ChangeWatch {
+    ghost use Rattle.debugging.specs.Run.{is_changed};
+
+    ghost passes = { λ watch p. is_changed watch.address watch.byte p ≡ false };
+
+    #[inline(always)]
+    fn may_end(&self, processor: &Processor<Bus>) -> bool {
+        processor.memory.peek(self.address) != self.byte
+    }
+}
+
+impl Watch for WriteWatch {
+    ghost use Rattle.debugging.specs.Accesses.{is_writing};
+
+    ghost passes = { λ watch p. is_writing watch.span p ≡ false };
+
+    #[inline(always)]
+    fn may_end(&self, processor: &Processor<Bus>) -> bool {
+        may_write(processor, &self.span)
+    }
+}
+
+impl Watch for ReadWatch {
+    ghost use Rattle.debugging.specs.Accesses.{is_reading};
+
+    ghost passes = { λ watch p. is_reading watch.span p ≡ false };
+
+    #[inline(always)]
+    fn may_end(&self, processor: &Processor<Bus>) -> bool {
+        may_read(processor, &self.span)
     }
 }
 

@@ -18,7 +18,7 @@ ghost use Rattle.debugging.specs.Quiet.{HasRom, IsQuietFor, Makes, MakesIn, Stop
 
 use crate::aims::{Aim, addresses_of, aims_of, is_any, number_of};
 use crate::order::Condition;
-use crate::passing::{AimWatch, OneWatch};
+use crate::passing::{AimWatch, ChangeWatch, OpcodeWatch, ReadWatch, WriteWatch};
 use crate::registers::{RegisterValue, with_register};
 use cartridge::Cartridge;
 use circular_buffer::HeapCircularBuffer;
@@ -215,7 +215,6 @@ impl Run {
     }
 
     /// The same, where the aims are these addresses.
-    #[inline(never)]
     fn run_to_address(self, addresses: &[u16], aims: &[Aim], rom: usize, limit: u32) -> RunUntil
         requires rom { HasRom rom (processor_of self).memory }
         requires same { (p : Processor BusState) → is_any aims.now p ≡ has_pc addresses.now p }
@@ -223,28 +222,48 @@ impl Run {
         ensures there { result.is_there ≡ nat_lt (steps_up_to (is_any aims.now) limit (processor_of self)) limit }
     {
         let breaks = Breaks::of(addresses);
-        self.run_up_to(&breaks, aims, rom, limit)
+        self.run_to_watched(&breaks, aims, rom, limit)
     }
 
     /// The same, where there is one aim.
-    #[inline(never)]
     fn run_to_one(self, aim: Aim, aims: &[Aim], rom: usize, limit: u32) -> RunUntil
         requires rom { HasRom rom (processor_of self).memory }
         requires one { aims.now ≡ aim ∷ [] }
         ensures run { result.run ≡ after_steps_of (steps_up_to (is_any aims.now) limit (processor_of self)) self }
         ensures there { result.is_there ≡ nat_lt (steps_up_to (is_any aims.now) limit (processor_of self)) limit }
     {
-        self.run_up_to(&OneWatch { aim }, aims, rom, limit)
+        match aim {
+            Aim::Opcode(opcode) => self.run_to_watched(&OpcodeWatch { opcode }, aims, rom, limit),
+            Aim::Other(address, byte) => self.run_to_watched(
+                &ChangeWatch { address, byte },
+                aims,
+                rom,
+                limit,
+            ),
+            Aim::Write(span) => self.run_to_watched(&WriteWatch { span }, aims, rom, limit),
+            Aim::Read(span) => self.run_to_watched(&ReadWatch { span }, aims, rom, limit),
+            Aim::Place(_) => self.run_to_any(aims, rom, limit),
+        }
+    }
+
+    /// The same, by a watch, in a function of its own for each. Condition: it lets none of them pass.
+    #[inline(never)]
+    fn run_to_watched<W: Watch>(self, watch: &W, aims: &[Aim], rom: usize, limit: u32) -> RunUntil
+        requires rom { HasRom rom (processor_of self).memory }
+        requires watch { (p : Processor BusState) → W.passes watch.now p → is_any aims.now p ≡ false }
+        ensures run { result.run ≡ after_steps_of (steps_up_to (is_any aims.now) limit (processor_of self)) self }
+        ensures there { result.is_there ≡ nat_lt (steps_up_to (is_any aims.now) limit (processor_of self)) limit }
+    {
+        self.run_up_to(watch, aims, rom, limit)
     }
 
     /// The same, of any aims.
-    #[inline(never)]
     fn run_to_any(self, aims: &[Aim], rom: usize, limit: u32) -> RunUntil
         requires { HasRom rom (processor_of self).memory }
         ensures run { result.run ≡ after_steps_of (steps_up_to (is_any aims.now) limit (processor_of self)) self }
         ensures there { result.is_there ≡ nat_lt (steps_up_to (is_any aims.now) limit (processor_of self)) limit }
     {
-        self.run_up_to(&AimWatch { aims }, aims, rom, limit)
+        self.run_to_watched(&AimWatch { aims }, aims, rom, limit)
     }
 
     /// The same, by a watch. Condition: it lets none of them pass.
