@@ -13,9 +13,12 @@ module that these hand to clang is taken, and changed for WebAssembly with a 64-
 - the name of one instruction, a table lookup of 16 bytes, which both processors have;
 - one instruction, the sums of the pairs of bytes of two vectors, which is written out as the three that it is.
 
-That is all, and each of them is printed (scripts/changed_module.py). scripts/memory32.py makes one with a 32-bit memory of what is linked."""
+That is all, and each of them is printed (scripts/changed_module.py). clang 22 compiles the bits of a comparison of 32 or 64 lanes wrongly for WebAssembly: it
+shifts 16 by the bits, where it has to shift the bits by 16. So what its optimizer leaves is taken once more, and such bits are asked for 16 at a time.
+scripts/memory32.py makes one with a 32-bit memory of what is linked."""
 import contextlib
 import os
+import re
 import shutil
 import subprocess
 import sys
@@ -23,8 +26,8 @@ import tempfile
 from pathlib import Path
 
 from scripts import page
-from scripts.changed_module import CLANG, RT, TOP, Table, changed, compiled, kit, module_of, run
-from scripts.doctor import needed
+from scripts.changed_module import CLANG, RT, TOP, Table, changed, kit, module_of, run
+from scripts.doctor import needed, tries
 from scripts.memory32 import Unknown, leb, sections, with_32_bits
 
 WEB, SECOND = TOP / 'web', TOP / 'bin/web'
@@ -87,12 +90,51 @@ def check_module(module):
         raise Unknown(f'the module gives {exports(module)}')
 
 
-def link(toolchain, room, text):
-    """Compiles the changed module, the C of the library and the heap, and links them. Answers the bytes."""
-    clang = toolchain / 'toolchain/bin/clang'
+def with_narrow_masks(text):
+    """A module in which the bits of 32 or 64 lanes are asked for 16 at a time, and how many such bits there were. Raises Unknown."""
+    count = 0
+
+    def narrow(found):
+        nonlocal count
+        count += 1
+        name, lanes, vector = found[1], int(found[2]), found[3]
+        bits, parts, lines = f'i{lanes}', [], []
+        for at in range(0, lanes, 16):
+            part = f'%mask.{count}.{at}'
+            which = ', '.join(f'i32 {lane}' for lane in range(at, at + 16))
+            lines += [f'{part}.lanes = shufflevector <{lanes} x i1> {vector}, <{lanes} x i1> poison, <16 x i32> <{which}>',
+                      f'{part}.bits = bitcast <16 x i1> {part}.lanes to i16', f'{part}.wide = zext i16 {part}.bits to {bits}',
+                      f'{part} = shl {bits} {part}.wide, {at}']
+            parts.append(part)
+        for last, part in enumerate(parts[1:], 2):
+            so_far = parts[0] if last == 2 else f'%mask.{count}.first.{last - 1}'
+            whole = name if last == len(parts) else f'%mask.{count}.first.{last}'
+            lines.append(f'{whole} = or {bits} {so_far}, {part}')
+        return '\n'.join(f'  {line}' for line in lines)
+
+    text = re.sub(r'^ *(%\S+) = bitcast <(32|64) x i1> (%\S+) to i\2(?=$|[ ,])', narrow, text, flags=re.M)
+    left = re.search(r'bitcast <(?:32|64) x i1>.* to i\d.*|@llvm\.vector\.reduce\.\w+\.v(?:32|64)i1\(', text)
+    if left:
+        raise Unknown(f'the bits of a comparison: {left[0]}')
+    return text, count
+
+
+def compiled(toolchain, room, text):
+    """The object of a module for WebAssembly, and what was changed on the way, a line."""
+    clang, made = toolchain / 'toolchain/bin/clang', room / 'wasm.o'
     (room / 'wasm.ll').write_text(text, encoding='utf-8')
-    objects = [room / 'wasm.o']
-    compiled(toolchain, room / 'wasm.ll', TRIPLE, objects[0], *FEATURES)
+    flags = [f'--target={TRIPLE}', *FEATURES, *CLANG, '-O3', '-x', 'ir']
+    run([clang, *flags, '-S', '-emit-llvm', room / 'wasm.ll', '-o', room / 'optimized.ll'])
+    narrow, count = with_narrow_masks((room / 'optimized.ll').read_text(encoding='utf-8'))
+    (room / 'narrow.ll').write_text(narrow, encoding='utf-8')
+    run([clang, *flags, '-Xclang', '-disable-llvm-passes', '-c', room / 'narrow.ll', '-o', made])
+    return made, f'bits of 32 or 64 lanes, 16 at a time, in {count} places'
+
+
+def link(toolchain, room, made):
+    """Compiles the C of the library and the heap, and links them with the object of the module. Answers the bytes."""
+    clang = toolchain / 'toolchain/bin/clang'
+    objects = [made]
     for source in (TOP / 'library/gbkeep.c', WEB / 'heap.c', WEB / 'memory.c'):
         objects.append(room / f'{source.stem}.o')
         run([clang, f'--target={TRIPLE}', *FEATURES, *CLANG, *C, '-O2', f'-I{WEB / "include"}', f'-I{WEB}', '-c', source, '-o', objects[-1]])
@@ -116,14 +158,29 @@ def module_of_sources():
         text = module_of(toolchain, room, OTHER)
         try:
             for_wasm64, changes = for_wasm(text.read_text(encoding='utf-8'))
-            for line in changes:
+            made, narrowed = compiled(toolchain, room, for_wasm64)
+            for line in [*changes, narrowed]:
                 print(f'changed: {line}')
-            module, counts = with_32_bits(link(toolchain, room, for_wasm64))
+            module, counts = with_32_bits(link(toolchain, room, made))
             check_module(module)
         except Unknown as unknown:
             sys.exit(f'web.py: {unknown}: the module is not made')
-    print(f'changed: {counts}')
+        print(f'changed: {counts}')
+        play(room, module)
     return module, of, prover()
+
+
+def play(room, module):
+    """Lets the parts of the page that need no browser play a module. Ends where one of them fails."""
+    if not tries('the module, by the parts of the page that need no browser', 'node'):
+        return
+    tried = room / page.MODULE
+    tried.write_bytes(page.packed(module))
+    print('playing it by the parts of the page that need no browser', flush=True)
+    played = subprocess.run(['node', '--test', f'{WEB / "tests"}/'], env={**os.environ, 'MODULE': str(tried)}, capture_output=True, text=True)
+    if played.returncode != 0:
+        sys.stderr.write(''.join(f'{line}\n' for line in played.stdout.splitlines() if re.match(r' *not ok', line)))
+        sys.exit('web.py: the module does not play: it is not kept')
 
 
 def prover():

@@ -15,6 +15,7 @@ import unittest
 from pathlib import Path
 
 from scripts import memory32, page, web
+from scripts.changed_module import kit, run
 from scripts.doctor import tries
 
 MODULE = f'''source_filename = "rattle"
@@ -341,6 +342,63 @@ class Memory(unittest.TestCase):
         # a number that is written in more bytes than it needs
         self.assertEqual(memory32.Reader(b'\x85\x80\x80\x80\0').number(), 5)
         self.assertEqual(memory32.Reader(b'\xff\xff\xff\xff\x7f').signed(), -1)
+
+
+# ---- what clang makes of it
+
+def comparing(lanes):
+    """A function of two vectors, given as numbers of 64 bits: which of their bytes differ, a bit each."""
+    numbers = lanes // 8
+    code = []
+    for name in 'ab':
+        last = 'poison'
+        for at in range(numbers):
+            code.append(f'%{name}.v{at} = insertelement <{numbers} x i64> {last}, i64 %{name}{at}, i64 {at}')
+            last = f'%{name}.v{at}'
+        code.append(f'%{name} = bitcast <{numbers} x i64> {last} to <{lanes} x i8>')
+    vectors = f'<{lanes} x i8> %a, <{lanes} x i8> %b'
+    code += [f'%bits = call i{lanes} @differing{lanes}({vectors})', f'ret i{lanes} %bits']
+    given = ', '.join(f'i64 %{name}{at}' for name in 'ab' for at in range(numbers))
+    # a function of its own, so that the vectors come in parts of 16 bytes
+    inner = [f'%differ = icmp ne <{lanes} x i8> %a, %b', f'%bits = bitcast <{lanes} x i1> %differ to i{lanes}', f'ret i{lanes} %bits']
+    functions = ((f'@bits{lanes}({given}) #0', code), (f'@differing{lanes}({vectors}) noinline #0', inner))
+    return '\n'.join(f'define i{lanes} {head} {{\n' + ''.join(f'  {line}\n' for line in body) + '}\n' for head, body in functions)
+
+
+COMPARES = '\n'.join((f'target datalayout = "{web.WASM_LAYOUT}"', f'target triple = "{web.TRIPLE}"', comparing(32), comparing(64),
+                      f'attributes #0 = {{ {web.WASM_PROCESSOR} }}', ''))
+
+
+class Masks(unittest.TestCase):
+    def test_bits_are_asked_for_16_at_a_time(self):
+        text, count = web.with_narrow_masks(COMPARES)
+        self.assertEqual((count, text.count('bitcast <16 x i1>'), text.count('bitcast <32 x i1>'), text.count('bitcast <64 x i1>')), (2, 6, 0, 0))
+        for wrong in ('  %x = bitcast <32 x i1> splat (i1 true) to i32\n', '  %x = call i1 @llvm.vector.reduce.or.v64i1(<64 x i1> %y)\n'):
+            with self.subTest(wrong=wrong), self.assertRaisesRegex(web.Unknown, 'the bits of a comparison'):
+                web.with_narrow_masks(wrong)
+
+    @unittest.skipUnless(has_node() and tries('the bits of comparisons, by an engine', 'clang of rt'), 'there is no node, or no clang of the toolchain')
+    def test_each_bit(self):
+        """A byte that differs is told by its bit, and by no other one."""
+        toolchain = kit()
+        with tempfile.TemporaryDirectory() as name:
+            room = Path(name)
+            made, said = web.compiled(toolchain, room, COMPARES)
+            self.assertEqual(said, 'bits of 32 or 64 lanes, 16 at a time, in 2 places')
+            (room / 'wasm-ld').symlink_to(toolchain / 'toolchain/bin/ld.lld')
+            run([room / 'wasm-ld', '-mwasm64', '--no-entry', '--strip-all', '--export=bits32', '--export=bits64', '-o', room / 'wide.wasm', made])
+            narrow, _ = memory32.with_32_bits((room / 'wide.wasm').read_bytes())
+            calls, wanted = [], []
+            for lanes in (32, 64):
+                for places in ([], *([place] for place in range(lanes)), [0, 17], [1, lanes - 1], range(lanes)):
+                    words = [0x0123456789abcdef + at for at in range(lanes // 8)]
+                    other = words[:]
+                    for place in places:
+                        other[place // 8] ^= 0x80 << place % 8 * 8
+                    calls.append((f'bits{lanes}', *words, *other))
+                    wanted.append(sum(1 << place for place in places))
+            said, = answers(room, calls, narrow, flag=False)
+        self.assertEqual([int(answer) % (1 << int(call[0][4:])) for call, (answer, _) in zip(calls, said)], wanted)
 
 
 # fills the heap of the module with ever smaller blocks, begins a game then, and once more when the blocks are given back
