@@ -9,16 +9,17 @@ from collections.abc import Callable, Iterable, Iterator, Sequence
 from dataclasses import dataclass
 from typing import Optional, Union
 
-from .game import MOST_STATE, PICTURE_BYTES, Picture, Refused, line_of, started
+from .game import MOST_STATE, Picture, Refused, line_of, started
 from .input_files import PathLike, WrongInput, number, printable
 from .machines import SLOTS, STATE_HEADER
+from .pictures import HEIGHT, WIDTH
 from .symbols import quoted
 from .tools import Failed
 
 # an answer of the program
 MOST_ANSWER, MOST_BYTES, MOST_ROM = 1 << 12, 65_536, 8 << 20
 # as many places or conditions as a line takes, and steps as it makes; and the bytes that it may have
-MOST_PLACES, MOST_STEPS, MOST_LINE = 16, 0xffff_ffff, 128
+MOST_PLACES, MOST_STEPS, MOST_LINE = 16, 0xffff_ffff, 512
 # the bank that no place outside of ROM has: a run to it makes all its steps
 NOWHERE = '1:FEA0'
 # steps between two looks at whether a run is to end: more where they take less than some hundredths of a second, fewer where they take more
@@ -104,6 +105,13 @@ class Program:
         if len(data) != count:
             self.end()
         return data
+
+    def counted(self, line: str, count: int) -> bytes:
+        """Gives a line whose answer says that so many bytes stand behind it, and answers these."""
+        answer = self.ask(line)
+        if self.number(answer, count) != count:
+            raise self.strange(answer)
+        return self.bytes(count)
 
     def close(self) -> None:
         """Ends the program by the end of its input."""
@@ -242,14 +250,7 @@ class Debuggee:
 
     def memory(self, address: int, count: int) -> bytes:
         """What `memory` shows."""
-        lines = self.program.lines(f'memory {address:04X} {count}', (count + 15) // 16)
-        try:
-            data = bytes.fromhex(''.join(line[5:] for line in lines))
-        except ValueError:
-            data = b''
-        if len(data) != count:
-            raise self.program.strange(lines[0])
-        return data
+        return self.program.counted(f'bytes {address:04X} {count}', count)
 
     def bank(self, address: int) -> int:
         return self.program.address(self.program.ask(f'bank {address:04X}'))
@@ -264,8 +265,7 @@ class Debuggee:
         return self.program.ask('digest')
 
     def picture(self) -> Picture:
-        data = self.program.ask('picture').encode() + b'\n'
-        return Picture(data + self.program.bytes(PICTURE_BYTES - len(data)))
+        return Picture(self.program.counted('shades', WIDTH * HEIGHT))
 
     def serial(self) -> bytes:
         """The bytes that were sent since the last call."""

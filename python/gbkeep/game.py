@@ -32,7 +32,7 @@ from typing import TYPE_CHECKING, BinaryIO, NoReturn, Optional, SupportsIndex
 
 from .input_files import MOST_CART, PathLike, printable
 from .machines import NO_STATE, STATE_HEADER, STATE_MARK, Buffer, Cart, MissingProgram, NoState, Played, Refused, bytes_of
-from .pictures import HEIGHT, PICTURE_HEAD, SCALE, WIDTH, png_of
+from .pictures import HEIGHT, SCALE, WIDTH, pgm_of, png_of
 from .streams import take_streams
 from .system import IS_POSIX, NO_PROGRAM
 
@@ -40,7 +40,6 @@ if TYPE_CHECKING:
     import numpy
 
 RIGHT, LEFT, UP, DOWN, A, B, SELECT, START = (1 << bit for bit in range(8))
-PICTURE_BYTES = 46_093
 MOST_FRAMES, MOST_SECONDS = 1_000_000, 0xffff_ffff
 # what a pipe takes at once when it takes anything
 PIECE = 4096
@@ -65,11 +64,15 @@ class Header:
 
 
 class Picture:
-    """160 by 144 shades, 0 (darkest) to 3 (lightest), in `shades`, row by row; `pgm` is the picture as the program writes it."""
+    """160 by 144 shades, 0 (darkest) to 3 (lightest), in `shades`, row by row."""
 
-    def __init__(self, pgm: bytes):
-        self.pgm = pgm
-        self.shades = pgm[len(PICTURE_HEAD)::2].translate(bytes(byte - 48 & 3 for byte in range(256)))
+    def __init__(self, shades: bytes):
+        self.shades = shades
+
+    @property
+    def pgm(self) -> bytes:
+        """The picture as `gbkeep frame` writes it."""
+        return pgm_of(self.shades)
 
     def shade(self, x: int, y: int) -> int:
         return self.shades[y * WIDTH + x]
@@ -307,24 +310,12 @@ class Lines(Played):
             raise NoState
 
     def _memory(self, address: int, count: int) -> bytes:
-        self._ask(b'memory %04X %d\n' % (address, count))
-        rows = [self._line()[5:] for _ in range((count + 15) // 16)]
-        try:
-            data = bytes.fromhex(b' '.join(rows).decode())
-        except ValueError:
-            data = b''
-        if len(data) != count:
-            self._answers_wrongly()
-        return data
+        self._ask(b'bytes %04X %d\n' % (address, count))
+        return self._counted(b'bytes', count)
 
     def _picture(self) -> Picture:
-        self._ask(b'picture\n')
-        # a line is taken behind what comes before an answer
-        head = self._line() + b'\n'
-        pgm = head + self._bytes(max(PICTURE_BYTES - len(head), 0))
-        if not pgm.startswith(PICTURE_HEAD):
-            self._answers_wrongly()
-        return Picture(pgm)
+        self._ask(b'shades\n')
+        return Picture(self._counted(b'shades', WIDTH * HEIGHT))
 
     def _play(self, line: bytes, inputs: int) -> None:
         """Gives a line that is so many inputs."""
@@ -378,9 +369,12 @@ class Lines(Played):
         del self.unread[:count]
         return data
 
-    def _counted(self, word: bytes) -> bytes:
-        """The bytes of an answer that begins with how many they are."""
-        return self._bytes(self._number(self._line(), word, MOST_STATE))
+    def _counted(self, word: bytes, wanted: int = 0) -> bytes:
+        """The bytes of an answer that begins with how many they are: as many as are wanted, where that is known."""
+        count = self._number(self._line(), word, wanted or MOST_STATE)
+        if wanted and count != wanted:
+            self._answers_wrongly()
+        return self._bytes(count)
 
     def _number(self, line: bytes, word: bytes, most: int) -> int:
         """The number behind the word that a line has to begin with."""

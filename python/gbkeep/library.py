@@ -56,13 +56,6 @@ class _Call(ctypes.Structure):
     _fields_ = [('kind', ctypes.c_uint32), ('sector', ctypes.c_uint32), ('bytes', ctypes.c_uint8 * SECTOR)]
 
 
-class Shades(Picture):
-    """160 by 144 shades, 0 (darkest) to 3 (lightest), in `shades`, row by row."""
-
-    def __init__(self, shades: bytes):
-        self.shades = shades
-
-
 def find_library() -> str:
     """What the variable GBKEEP_LIBRARY names; else the one in this package, as pip installs it, bin/libgbkeep.so of the clone, or the one that is installed
     with this; else the system's."""
@@ -203,10 +196,10 @@ class _Held(Played):
         """How many bytes a state has."""
         return self._call('state_length')
 
-    def _picture(self) -> 'Shades':
+    def _picture(self) -> Picture:
         shades = ctypes.create_string_buffer(PICTURE_LENGTH)
         _done(self._call('picture', shades, PICTURE_LENGTH))
-        return Shades(shades.raw)
+        return Picture(shades.raw)
 
     def _picture_into(self, room: memoryview) -> None:
         _done(self._call('picture', _for_c(room), PICTURE_LENGTH))

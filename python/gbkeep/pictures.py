@@ -38,6 +38,13 @@ PNG_HEADS = (png_head(1), png_head(SCALE))
 PICTURE_HEADS = (PICTURE_HEAD, *PNG_HEADS)
 
 
+def pgm_of(shades: bytes) -> bytes:
+    """Shades 0 (black) to 3 (white) as the program writes a picture: 32 of them a line."""
+    text = bytearray(PICTURE_HEAD + (b'0 ' * 31 + b'0\n') * (WIDTH * HEIGHT // 32))
+    text[len(PICTURE_HEAD)::2] = bytes(shades).translate(bytes(48 + (shade & 3) for shade in range(256)))
+    return bytes(text)
+
+
 def png_of(shades: bytes, width: int = WIDTH, height: int = HEIGHT, scale: int = SCALE, palette: bytes = b'') -> bytes:
     """A PNG of shades 0 (black) to 3 (white), row by row; with a palette, of its colours, each in three bytes."""
     values = bytes(shades) if palette else bytes(shades).translate(bytes(shade * 85 & 255 for shade in range(256)))

@@ -45,7 +45,7 @@ from typing import IO, NoReturn, Optional
 from .game import Game, Refused, ended, find_program, line_of, started
 from .input_files import MOST_LINE, PathLike, WrongInput, number, printable, read_bytes, read_text, reason
 from .new_files import Unsafe, check_target, new_file
-from .pictures import HEIGHT, PICTURE_HEAD, PICTURE_HEADS, PNG_HEADS, WIDTH, png_of, shades_of
+from .pictures import HEIGHT, PICTURE_HEADS, PNG_HEADS, WIDTH, pgm_of, png_of, shades_of
 from .script import friendly_moves
 from .tools import Failed, Words, count_word, name_of_tool, run_tool
 
@@ -250,11 +250,6 @@ def shades_in(path: Path) -> bytes:
         return shades_of(data)
     except ValueError as error:
         raise Failed(f'{printable(path)}: {error}') from None
-
-
-def pgm_of(shades: bytes) -> bytes:
-    digits = [str(shade) for shade in shades]
-    return PICTURE_HEAD + ''.join(' '.join(digits[at:at + 32]) + '\n' for at in range(0, len(digits), 32)).encode()
 
 
 def difference_of(actual: bytes, wanted: bytes) -> bytes:

@@ -17,7 +17,8 @@ from unittest import mock
 
 import gbkeep
 from gbkeep.faults import CODES, explained
-from gbkeep.game import PICTURE_HEAD, bytes_of, started
+from gbkeep.game import bytes_of, started
+from gbkeep.pictures import PICTURE_HEAD
 from gbkeep.library import advice_of
 from gbkeep.machines import number, room_of
 from gbkeep_tests import support
@@ -185,7 +186,7 @@ def test_missing(folder):
     expect('no GTK', (status, out, 'python3-gi' in err, err.count('\n')), (1, '', True, 1))
     status, out, err = ran([*bare, 'gbkeep.window', '--help'], PYTHONPATH=str(SOURCES))
     expect('help without GTK', (status, 'usage: gbkeep-window' in out, err), (0, True, ''))
-    says = f'import gbkeep; print(len(gbkeep.Picture({PICTURE_HEAD!r} + b"3 " * 23040).png()) > 0)'
+    says = 'import gbkeep; print(len(gbkeep.Picture(b"\\3" * 23040).png()) > 0)'
     expect('a picture without packages', ran([sys.executable, '-S', '-B', '-c', says], PYTHONPATH=str(SOURCES)), (0, 'True\n', ''))
     status, out, err = ran([sys.executable, '-B', '-c', 'import gbkeep; gbkeep.Machine(b"")'], PYTHONPATH=str(SOURCES), GBKEEP_LIBRARY=str(folder / 'none.so'))
     expect('no library', (status, 'the library can\'t be loaded' in err, '`make library` makes one' in err.splitlines()[-1]), (1, True, True))

@@ -906,10 +906,36 @@ def test_pictures_are_what_frame_writes(room):
     room.expect('the last picture', last, picture)
 
 
-def test_a_line_has_128_bytes_at_most(room):
+def test_a_line_has_512_bytes_at_most(room):
     room.rom('long.gb', SENDS)
-    for length in (1, 127, 128, 129, 896, 1024, 5000):
+    for length in (1, 127, 128, 129, 511, 512, 513, 896, 1408, 5000):
         room.done('debug long.gb', 'wrong 1\nlimit 0102\nwrong 3\n', ' ' * length + '\nuntil 1 0102\nuntil')
+    # sixteen of the longest conditions have 287 bytes; a count of steps has ten digits at most, so that no right line is longer
+    conditions = ' '.join(['write FEA0-FEFF'] * 16)
+    room.done('debug long.gb', 'limit 0102\nwrong 2\n', f'continue 0000000001 {conditions}\ncontinue 1 {conditions} 0\n')
+
+
+def test_looks_are_the_same_bytes(room):
+    """`bytes` and `shades` are what `memory` and `picture` tell, in a stream, of a recorded game and in a debugger."""
+    room.rom('looks.gb', SENDS, {0: 0xab})
+    room.done('new looks.gb looks.gbkeep', 'begun 0\n')
+    room.done('new looks.gb recorded.gbkeep', 'begun 0\n')
+    room.done('new-recording looks.gb looks.rec 20', 'begun 0\n')
+    lines = 'frames 00 2\npicture\nshades\nmemory 0 65536\nbytes 0 65536\nbytes FFFE 3\nbytes 0 65537\n'
+    for words in ('stream looks.gb looks.gbkeep', 'record looks.gb recorded.gbkeep looks.rec', 'debug looks.gb'):
+        is_debug = words.startswith('debug')
+        begun, behind = (b'done\n', b'wrong 7\n') if is_debug else (b'resumed 0\n', b'saved 2\n')
+        status, out, err = room.run(words, lines)
+        room.expect(f'{words}: how it ends', (status, err), (0, b'') if is_debug else (1, b'gbkeep: script line 7\n'))
+        parts = []
+        for length in (len(begun), PICTURE, 13, 23_040, 65_536 * 3 + 4_096 * 5, 12, 65_536, 8, 3, len(behind)):
+            parts.append(out[:length])
+            out = out[length:]
+        heads = [parts[at] for at in (0, 2, 5, 7, 9)] + [out]
+        room.expect(f'{words}: the lines around the bytes', heads, [begun, b'shades 23040\n', b'bytes 65536\n', b'bytes 3\n', behind, b''])
+        room.expect(f'{words}: the shades', parts[3], bytes(int(shade) for shade in parts[1][len(PGM):].split()))
+        room.expect(f'{words}: the bytes', parts[6], b''.join(bytes.fromhex(row[5:].decode()) for row in parts[4].splitlines()))
+        room.expect(f'{words}: bytes that wrap', parts[8], parts[6][0xfffe:] + parts[6][:1])
 
 
 # ---- traces

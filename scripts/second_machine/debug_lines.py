@@ -4,7 +4,7 @@ import collections, copy, hashlib, random, re, sys
 from scripts.second_machine import reference as ref
 from gbkeep import save_files
 
-MOST_LINE, MOST_SENT, MOST_HISTORY = 128, 65536, 1024
+MOST_LINE, MOST_SENT, MOST_HISTORY = 512, 65536, 1024
 COUNT, HEX = rb'([0-9]{1,10})', rb'[0-9A-Fa-f]'
 ADDRESS, BYTE = rb'(' + HEX + rb'{1,4})', rb'(' + HEX + rb'{2})'
 SPAN = rb'(' + HEX + rb'{1,4}(?: ' + HEX + rb'{1,4})?)'
@@ -70,8 +70,10 @@ FORMS = [(re.compile(form), name, readers) for form, name, readers in (
     (rb'history ' + COUNT, 'history', (room,)),
     (rb'list ' + ADDRESS + b' ' + COUNT, 'list', (address, room)),
     (rb'memory ' + ADDRESS + b' ' + COUNT, 'memory', (address, room)),
+    (rb'bytes ' + ADDRESS + b' ' + COUNT, 'bytes', (address, room)),
     (rb'serial', 'serial', ()),
     (rb'picture', 'picture', ()),
+    (rb'shades', 'shades', ()),
     (rb'power', 'power', ()),
     (rb'keep ' + COUNT, 'keep', (slot,)),
     (rb'back ' + COUNT, 'back', (slot,)),
@@ -317,6 +319,9 @@ class Debugger:
             rows.append('%04X%s\n' % (row[0], ''.join(' %02X' % self.m.read(place, peek=True) for place in row)))
         return ''.join(rows)
 
+    def bytes(self, at, count):
+        return b'bytes %d\n' % count + bytes(self.m.read((at + i) & 0xFFFF, peek=True) for i in range(count))
+
     def listing(self, at, count):
         rows = []
         for _ in range(count):
@@ -364,8 +369,10 @@ class Debugger:
             return 'history %d\n%s' % (len(last), ''.join(last))
         if name == 'list': return self.listing(*words)
         if name == 'memory': return self.memory(*words)
+        if name == 'bytes': return self.bytes(*words)
         if name == 'serial': return self.serial()
         if name == 'picture': return m.picture()
+        if name == 'shades': return b'shades 23040\n' + bytes(3 - shade for row in m.shades for shade in row)
         if name == 'power':
             powered(m)
             self.history.clear()
@@ -429,11 +436,11 @@ WRONG = [b'step', b'step 0', b'step 4294967296', b'step 00000000001', b'step -1'
          b'until-op 1 040', b'until-op 1 GG', b'until-op 0 40', b'until-op 1 40 41', b'until_op 1 40', b'frame', b'frame 1', b'frame 1G', b'frames 00 0',
          b'frames 00 1000001', b'frames 00', b'frame 00 1', b'seconds', b'seconds -1', b'seconds 4294967296', b'registers ', b'registers 1', b'Registers',
          b'history', b'history 0', b'history 65537', b'history 1 1', b'list 100', b'list 100 0', b'list 100 65537', b'list 10000 1', b'list  1', b'list g 1',
-         b'memory 0', b'memory 0 0', b'memory 0 65537', b'memory 00000 1', b'memory -1 1', b'memory 1 1 1', b'memory 0x10 1', b'serial 1', b'serial\0', b'picture 1',
+         b'memory 0', b'memory 0 0', b'memory 0 65537', b'memory 00000 1', b'memory -1 1', b'memory 1 1 1', b'memory 0x10 1', b'bytes', b'bytes 0', b'bytes 0 0', b'bytes 0 65537', b'bytes 10000 1', b'bytes 0 1 1', b'Bytes 0 1', b'bytes  0 1', b'shades 1', b'shades ', b'Shades', b'serial 1', b'serial\0', b'picture 1',
          b'state 0', b'state\r', b'digest 0', b'digest ', b'Digest', b'restore', b'restore ', b'restore 0', b'restore 1048577', b'restore 4294967296', b'restore -1',
          b'restore x', b'restore 1 1', b'restore  1', b'Restore 1', b'restore 00000000001',
          b'power ', b'power 1', b'Power', b'keep', b'keep ', b'keep 1000', b'keep -1', b'keep 1 1', b'keep 00000000001', b'keep x', b'Keep 1', b'keep  1', b'back',
-         b'back ', b'back 1000', b'back 4294967296', b'back 1 1', b'back  1', b'back 0x1', b'back +1', b'save', b'resume', b'quit', b' ', b'  ', b'\r', b'\0', b'\xff', b'\xc3\xa9', b'step \xd9\xa1', b'x' * 128, b'x' * 129,
+         b'back ', b'back 1000', b'back 4294967296', b'back 1 1', b'back  1', b'back 0x1', b'back +1', b'save', b'resume', b'quit', b' ', b'  ', b'\r', b'\0', b'\xff', b'\xc3\xa9', b'step \xd9\xa1', b'x' * 128, b'x' * 129, b'x' * 512, b'x' * 513,
          b'registers' + b' ' * 119, b'registers' + b' ' * 120, b'0' * 1023, b'0' * 1024, b'0' * 1025, b's' * 5000]
 
 
@@ -481,7 +488,7 @@ def a_line(rnd, most, seen):
     if choice == 7: return 'seconds %d' % rnd.choice([0, 1, 59, 60, 3600, 86400, 44236800, 4294967295, rnd.randrange(200000)])
     if choice == 8: return 'history ' + rnd.choice(['1', '3', '1024', '65536', count(100)])
     if choice == 9: return 'list %s %s' % (place(), count(rnd.choice([1, 20, 300])))
-    if choice == 10: return 'memory %s %s' % (place(), rnd.choice(['1', '16', '17', count(300), count(300), '65536']))
+    if choice == 10: return '%s %s %s' % (rnd.choice(['memory', 'memory', 'bytes']), place(), rnd.choice(['1', '16', '17', count(300), count(300), '65536']))
     if choice == 11: return 'bank ' + place()
     if choice == 12: return 'until-change %s %s' % (count(most), place())
     if choice < 15: return 'until-write %s %s' % (count(most), spanned())
@@ -492,7 +499,7 @@ def a_line(rnd, most, seen):
     if choice == 22: return 'set-register ' + register()
     if choice < 25: return ' '.join(['profile', count(most), *[banked() for _ in range(rnd.choice([0, 0, 1, 2, 16]))]])
     if choice < 29: return ' '.join(['continue', count(most), *[condition() for _ in range(rnd.choice([1, 1, 2, 3, 8]))]])
-    return rnd.choice(['registers', 'serial', 'digest', 'digest'] + ['picture', 'state'] * (rnd.random() < 0.2))
+    return rnd.choice(['registers', 'serial', 'digest', 'digest'] + ['picture', 'shades', 'state'] * (rnd.random() < 0.2))
 
 
 # what a `restore` may be given, and what a stream answers to it: None where it goes on
@@ -586,7 +593,7 @@ def check_states(rnd, rom):
 def check():
     """A reader by words beside the one by forms, on many lines; seconds one by one beside all at once; states of each kind."""
     def by_words(line):
-        if len(line) > 128 or not line: return None
+        if len(line) > 512 or not line: return None
         words = line.split(b' ')
 
         def number(word, low, high):
@@ -603,10 +610,10 @@ def check():
 
         name, rest = words[0], words[1:]
         try:
-            if name in (b'registers', b'serial', b'picture', b'state', b'digest', b'power') and not rest: return (name.decode(),)
+            if name in (b'registers', b'serial', b'picture', b'shades', b'state', b'digest', b'power') and not rest: return (name.decode(),)
             if name == b'step' and len(rest) == 1: return 'step', number(rest[0], 1, 2 ** 32 - 1)
             if name == b'history' and len(rest) == 1: return 'history', number(rest[0], 1, 2 ** 16)
-            if name in (b'list', b'memory') and len(rest) == 2: return name.decode(), hexes(rest[0], 1, 4), number(rest[1], 1, 2 ** 16)
+            if name in (b'list', b'memory', b'bytes') and len(rest) == 2: return name.decode(), hexes(rest[0], 1, 4), number(rest[1], 1, 2 ** 16)
             if name == b'until-op' and len(rest) == 2: return 'until-op', number(rest[0], 1, 2 ** 32 - 1), hexes(rest[1], 2, 2)
             if name == b'until' and 2 <= len(rest) <= 17: return 'until', number(rest[0], 1, 2 ** 32 - 1), [banked(word) for word in rest[1:]]
             if name == b'continue' and len(rest) >= 2:

@@ -5,7 +5,7 @@ ghost use Rattle.machine.specs.Machine.{start, after, picture_rows, powered, sec
 ghost use Rattle.machine.specs.Machine.{Frame};
 ghost use Rattle.snapshot.specs.Legal.{IsMachineOf};
 ghost use Rattle.state_header.specs.States.{state_length, state_of};
-ghost use Rattle.embedding.specs.Orders.{shades_of, bytes_from};
+ghost use Rattle.machine.specs.Looking.{bytes_from, shades_of};
 ghost use Rattle.refusals.specs.Codes.{done};
 ghost use Rattle.c_interface.specs.Codes.{IsMadeCode, IsRestoredCode, no_memory};
 

@@ -14,7 +14,7 @@ ghost use Rattle.session.specs.Stands.{IsAtRest, StandsAt, StandsBetween};
 ghost use Rattle.session.specs.Inputs.{can_be_logged, entry_of, inputs_of};
 ghost use Rattle.battery_files.specs.Battery.{battery_length, battery_of};
 ghost use Rattle.battery_files.specs.Importing.{start_with};
-ghost use Rattle.embedding.specs.Orders.{bytes_from, shades_of};
+ghost use Rattle.machine.specs.Looking.{bytes_from, shades_of};
 ghost use Rattle.embedding.specs.Games.{IsFrom, IsTaken, KeepsInputs};
 ghost use Rattle.embedding.specs.Calls.{image_calls};
 ghost use Rattle.embedding.specs.HostDevices.{HasHandedOut, calls_of, count_of, handed_of, host_disk};

@@ -47,8 +47,10 @@ const STREAM_LINES: &str = "Lines of the standard input:
   seconds N    N seconds pass on the cartridge's clock, 0 to 4,294,967,295
   save         saves what is unsaved, and answers saved N
   picture      answers the picture as plain PGM, 46,093 bytes
+  shades       answers shades 23040, and the picture, a byte a pixel: 0 is the darkest
   state        answers state N, and the N bytes of the machine's state
   memory ADDR N  answers N bytes as the program sees them, sixteen a line
+  bytes ADDR N   answers bytes N, and these bytes as they are
   power        the power switch, off and on
   restore N    and N bytes: goes on with the machine of this state, and answers restored
   keep K       keeps the machine under K, 0 to 999, and answers kept K
@@ -72,10 +74,12 @@ const DEBUG_LINES: &str = "Lines of the standard input, each answered before the
   registers         the registers
   history N         the last N instructions, at most 1,024
   list ADDR N       N instructions from ADDR on
-  memory ADDR N     N bytes from ADDR on
+  memory ADDR N     N bytes from ADDR on, sixteen a line
+  bytes ADDR N      bytes N, and these bytes as they are
   bank ADDR         the number of the bank that is mapped at ADDR
   serial            the bytes that were sent since the last serial
   picture           the picture as plain PGM, 46,093 bytes
+  shades            shades 23040, and the picture, a byte a pixel: 0 is the darkest
   state             state K, and the K bytes of the machine's state
   restore K         and K bytes behind it: goes on from this state
   power             the power switch, off and on: what a battery keeps stays

@@ -47,21 +47,21 @@ answers_one_more number (first ∷ all) given d =
     ∙ sym (append_assoc (answer_given first number d) (answers (number + 1) all (after_given first d)) _)
     ∙ ap (λ (n : ℕ). (answer_given first number d ++ answers (number + 1) all (after_given first d)) ++ answer_given given n (after_lines all (after_given first d))) same
 
--- ---- a line of more than 128 bytes, and bytes that are no state
+-- ---- a line of more than 512 bytes, and bytes that are no state
 
-asks_no_state : (line : List ℕ) → 128 < length line → state_order_of line ≡ None
-asks_no_state line long = let test : nat_le (length line) 128 ≡ false = lt-leb (length line) 128 long in rw test refl
+asks_no_state : (line : List ℕ) → 512 < length line → state_order_of line ≡ None
+asks_no_state line long = let test : nat_le (length line) 512 ≡ false = lt-leb (length line) 512 long in rw test refl
 
-asks_nothing : (line : List ℕ) → 128 < length line → order_of line ≡ None
-asks_nothing line long = let test : nat_le (length line) 128 ≡ false = lt-leb (length line) 128 long in rw test refl
+asks_nothing : (line : List ℕ) → 512 < length line → order_of line ≡ None
+asks_nothing line long = let test : nat_le (length line) 512 ≡ false = lt-leb (length line) 512 long in rw test refl
 
-is_some_line : (line : List ℕ) → 128 < length line → (length line == 0) ≡ false
+is_some_line : (line : List ℕ) → 512 < length line → (length line == 0) ≡ false
 is_some_line line long = grind (arith, nat_tests)
 
-after_long : (line : List ℕ) (r : RunState) → 128 < length line → after_line line r ≡ r
+after_long : (line : List ℕ) (r : RunState) → 512 < length line → after_line line r ≡ r
 after_long line r long = let some = is_some_line line long in let none = asks_nothing line long in rw (some, none) refl
 
-answer_long : (line : List ℕ) (number : ℕ) (r : RunState) → 128 < length line → answer_line line number r ≡ wrong_line number
+answer_long : (line : List ℕ) (number : ℕ) (r : RunState) → 512 < length line → answer_line line number r ≡ wrong_line number
 answer_long line number r long = let some = is_some_line line long in let none = asks_nothing line long in rw (some, none) refl
 
 pub wrong_given : (rom : List ℕ) (given : Given) (number : ℕ) (d : DebugState) → IsWrong rom given → rom_of d.run ≡ rom → (after_given given d ≡ d) × (answer_given given number d ≡ wrong_line number)

@@ -15,9 +15,9 @@ use Rattle.machine_lines.specs.declared.taking.TakenState.TheVariants.{Snapshot,
 use Rattle.state_header.specs.States.{header_of}
 use Rattle.state_header.proofs.States.{header_long, another_illegal}
 
--- a line of more than 128 bytes is no `restore`
-pub long_asks_none : (line : List ℕ) → 128 < length line → restore_of line ≡ None
-long_asks_none line long = let test : nat_le (length line) 128 ≡ false = lt-leb (length line) 128 long in rw test refl
+-- a line of more than 512 bytes is no `restore`
+pub long_asks_none : (line : List ℕ) → 512 < length line → restore_of line ≡ None
+long_asks_none line long = let test : nat_le (length line) 512 ≡ false = lt-leb (length line) 512 long in rw test refl
 
 by_none : (line : List ℕ) → restore_of line ≡ None → asked line ≡ 0
 by_none line none = rw none refl

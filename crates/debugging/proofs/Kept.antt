@@ -12,7 +12,7 @@ use Rattle.std.proofs.lemmas.List.Elements.{All-cons, All-nil}
 use Rattle.machine.specs.Machine.{Frame, PassesTime, after}
 use Rattle.machine.proofs.KeptByInputs.{bus_keeps, by_inputs}
 use Rattle.debugging.specs.declared.order.Order.{Order}
-use Rattle.debugging.specs.declared.order.Order.TheVariants.{Frames, Seconds, Step, Until, Continue, Set, SetRegister, Registers, History, List as Listing, Memory, Bank, Serial, Picture, State, Digest}
+use Rattle.debugging.specs.declared.order.Order.TheVariants.{Frames, Seconds, Step, Until, Continue, Set, SetRegister, Registers, History, List as Listing, Look, Bank, Serial, Digest}
 use Rattle.snapshot.specs.Encoding.{snapshot_length}
 use Rattle.snapshot.specs.Legal.{IsOfImage}
 use Rattle.memory_map.proofs.SameCartridge.{write_same}
@@ -58,11 +58,9 @@ order_keeps (SetRegister value) r = itself r
 order_keeps Registers r = itself r
 order_keeps (History n) r = itself r
 order_keeps (Listing address n) r = itself r
-order_keeps (Memory address n) r = itself r
+order_keeps (Look look) r = itself r
 order_keeps (Bank address) r = itself r
 order_keeps Serial r = itself r
-order_keeps Picture r = itself r
-order_keeps State r = itself r
 order_keeps Digest r = itself r
 
 asked_keeps : (asked : Option Order) (r : RunState) → IsKept r (after_asked asked r)

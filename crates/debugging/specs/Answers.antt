@@ -5,19 +5,18 @@ use Rattle.hex.specs.Hex.{encode_lower}
 use Rattle.sha2.specs.Sha256.{sha256}
 use Rattle.circular_buffer.specs.Buffer.{keep_last}
 use Rattle.exact_text.specs.Hex.{word_text}
-use Rattle.picture_unit.specs.Pgm.{picture_text}
 use Rattle.memory_map.specs.State.{BusState}
 use Rattle.memory_map.specs.BusRules.{bus_rules}
 use Rattle.sm83_processor.specs.declared.processor.Processor.{Processor}
 use Rattle.sm83_processor.specs.declared.step.Executed.{Executed}
-use Rattle.machine.specs.Machine.{MachineState, picture_rows}
+use Rattle.machine.specs.Machine.{MachineState}
 use Rattle.snapshot.specs.Encoding.{encoded}
-use Rattle.state_header.specs.States.{snapshot_in, state_of}
+use Rattle.state_header.specs.States.{snapshot_in}
 use Rattle.debugger.specs.Listing.{lines_from}
 use Rattle.debugger.specs.Registers.{register_line}
 use Rattle.debugger.specs.Report.{line_seen, step_lines}
 use Rattle.debugging.specs.declared.order.Order.{Order}
-use Rattle.debugging.specs.declared.order.Order.TheVariants.{Frames, Seconds, Step, Until, Continue, Set, SetRegister, Registers, History, List as Listing, Memory, Bank, Serial, Picture, State, Digest}
+use Rattle.debugging.specs.declared.order.Order.TheVariants.{Frames, Seconds, Step, Until, Continue, Set, SetRegister, Registers, History, List as Listing, Look, Bank, Serial, Digest}
 use Rattle.debugging.specs.declared.order.StateOrder.{StateOrder}
 use Rattle.debugging.specs.declared.order.StateOrder.TheVariants.{Power, Keep, Back, Profile}
 use Rattle.debugging.specs.Profile.{cycles_text, no_cycles, with_steps}
@@ -31,7 +30,8 @@ use Rattle.debugging.specs.Banks.{bank_at}
 use Rattle.debugging.specs.Conditions.{holds, is_met, number_of}
 use Rattle.debugging.specs.Run.{RunState, processor_of, after_steps_of, steps_up_to, after_frames, after_seconds}
 use Rattle.machine_lines.specs.KeptStates.{kept_under}
-use Rattle.machine_lines.specs.Texts.{count_line, memory_text, state_text}
+use Rattle.machine_lines.specs.Looks.{look_text}
+use Rattle.machine_lines.specs.Texts.{count_line}
 
 -- ---- texts
 
@@ -85,11 +85,9 @@ after_order (SetRegister value) r = with_machine (register_set value r.debugger.
 after_order Registers r = r
 after_order (History n) r = r
 after_order (Listing address n) r = r
-after_order (Memory address n) r = r
+after_order (Look look) r = r
 after_order (Bank address) r = r
 after_order Serial r = record r { sent = [] }
-after_order Picture r = r
-after_order State r = r
 after_order Digest r = r
 
 -- the answer to an order that leaves the debugger as `new`
@@ -104,11 +102,9 @@ answer_from (SetRegister value) old new = codes "done\n"
 answer_from Registers old new = register_line (processor_of old)
 answer_from (History n) old new = history_text n old.debugger.history
 answer_from (Listing address n) old new = lines_from old.debugger.machine address n
-answer_from (Memory address n) old new = memory_text old.debugger.machine address n
+answer_from (Look look) old new = look_text look old.debugger.machine
 answer_from (Bank address) old new = bank_line (bank_at (processor_of old).memory address)
 answer_from Serial old new = serial_text old.sent
-answer_from Picture old new = picture_text (picture_rows old.debugger.machine)
-answer_from State old new = state_text (state_of old.debugger.machine)
 answer_from Digest old new = digest_text old.debugger.machine
 
 abbrev pub answer_to : Order → RunState → List ℕ

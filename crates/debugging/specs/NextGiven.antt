@@ -9,10 +9,10 @@ use Rattle.debugging.specs.Orders.{asked, restore_of}
 use Rattle.debugging.specs.declared.given.NextGiven.{NextGiven}
 use Rattle.debugging.specs.declared.given.NextGiven.TheVariants.{Line, State, Wrong, Last, End, Failed}
 
--- nothing is done for it: a line of more than 128 bytes, or bytes that are not as many as they are said to be, or no state of the cartridge
+-- nothing is done for it: a line of more than 512 bytes, or bytes that are not as many as they are said to be, or no state of the cartridge
 abbrev pub IsWrong : (rom : List ℕ) → Given → Type 0
 IsWrong rom given =
-    (128 < length given.line)
+    (512 < length given.line)
     ⊎ ((n : ℕ) × (restore_of given.line ≡ Some n) × ((length given.bytes ≢ n) ⊎ (¬ IsLegalState rom given.bytes)))
 
 abbrev pub IsNextGiven : NextGiven → (rom snapshot : List ℕ) → (old new since : Option (List ℕ)) → Type 0

@@ -9,12 +9,14 @@ use Rattle.script.specs.Line.{byte_of, count_of, move_of_line, words_of}
 use Rattle.debugging.specs.declared.order.Place.{Place}
 use Rattle.debugging.specs.declared.order.Span.{Span}
 use Rattle.debugging.specs.declared.order.Order.{Order}
-use Rattle.debugging.specs.declared.order.Order.TheVariants.{Frames, Seconds, Step, Until, Continue, Set, SetRegister, Registers, History, List as Listing, Memory, Bank, Serial, Picture, State, Digest}
+use Rattle.debugging.specs.declared.order.Order.TheVariants.{Frames, Seconds, Step, Until, Continue, Set, SetRegister, Registers, History, List as Listing, Look as Looks, Bank, Serial, Digest}
 use Rattle.debugging.specs.declared.order.Condition.{Condition}
 use Rattle.debugging.specs.declared.order.Condition.TheVariants.{At, Runs, Reads, Writes, Changes}
 use Rattle.debugging.specs.Setting.{register_of}
 use Rattle.debugging.specs.declared.order.StateOrder.{StateOrder}
 use Rattle.debugging.specs.declared.order.StateOrder.TheVariants.{Power, Keep, Back, Profile}
+use Rattle.machine_lines.specs.Looks.{look_of}
+use Rattle.machine_lines.specs.declared.looks.Look.{Look}
 use Rattle.machine_lines.specs.Words.{hex_of, address_of, room_of, slot_of, size_of}
 
 -- ---- words
@@ -120,14 +122,12 @@ order_of_move (SecondsMove count) = Some (Seconds count)
 order_of_move Save = None
 order_of_move PowerMove = None
 
--- `registers`, `serial`, `picture`, `state`, `digest`
+-- `registers`, `serial`, `digest`
 abbrev pub order_of_one : List ℕ → Option Order
 order_of_one name =
     if bytes_eq name (codes "registers") then Some Registers
     else (if bytes_eq name (codes "serial") then Some Serial
-    else (if bytes_eq name (codes "picture") then Some Picture
-    else (if bytes_eq name (codes "state") then Some State
-    else (if bytes_eq name (codes "digest") then Some Digest else None))))
+    else (if bytes_eq name (codes "digest") then Some Digest else None))
 
 -- `step N`, `history N`, `bank ADDR`
 abbrev pub order_of_two : List ℕ → List ℕ → Option Order
@@ -142,17 +142,16 @@ order_of_span name word first last =
     if bytes_eq name (codes "until-write") then with_span Writes (steps_of word) (span_of (address_of first) (address_of last))
     else (if bytes_eq name (codes "until-read") then with_span Reads (steps_of word) (span_of (address_of first) (address_of last)) else None)
 
--- `list ADDR N`, `memory ADDR N`, `until-op N XX`, `until-change N ADDR`, `set ADDR XX`, `set-register R XXXX`; `until-write N ADDR` and
+-- `list ADDR N`, `until-op N XX`, `until-change N ADDR`, `set ADDR XX`, `set-register R XXXX`; `until-write N ADDR` and
 -- `until-read N ADDR` of one address
 abbrev pub order_of_three : List ℕ → List ℕ → List ℕ → Option Order
 order_of_three name word other =
     if bytes_eq name (codes "list") then with_two Listing (address_of word) (room_of other)
-    else (if bytes_eq name (codes "memory") then with_two Memory (address_of word) (room_of other)
     else (if bytes_eq name (codes "until-op") then with_two (until_one Runs) (steps_of word) (byte_of other)
     else (if bytes_eq name (codes "until-change") then with_two (until_one Changes) (steps_of word) (address_of other)
     else (if bytes_eq name (codes "set") then with_two Set (address_of word) (byte_of other)
     else (if bytes_eq name (codes "set-register") then option_map SetRegister (register_of word other)
-    else order_of_span name word other other)))))
+    else order_of_span name word other other))))
 
 -- `until N PLACE..`, of one to sixteen places
 abbrev pub until_order : List ℕ → List (List ℕ) → Option Order
@@ -175,13 +174,18 @@ order_of_words (name ∷ word ∷ words) =
     if bytes_eq name (codes "until") then until_order word words
     else (if bytes_eq name (codes "continue") then continue_order word words else order_of_few name word words)
 
+-- a look at the machine, or one of these
+abbrev pub look_or_words : Option Look → List (List ℕ) → Option Order
+look_or_words (Some look) words = Some (Looks look)
+look_or_words None words = order_of_words words
+
 abbrev pub order_by : Option Move → List ℕ → Option Order
 order_by (Some move) line = order_of_move move
-order_by None line = order_of_words (words_of line)
+order_by None line = look_or_words (look_of (words_of line)) (words_of line)
 
--- None: the line is wrong. One of more than 128 bytes always is.
+-- None: the line is wrong. One of more than 512 bytes always is.
 abbrev pub order_of : List ℕ → Option Order
-order_of line = if nat_le (length line) 128 then order_by (move_of_line line) line else None
+order_of line = if nat_le (length line) 512 then order_by (move_of_line line) line else None
 
 -- ---- the power switch, states that are kept, and a run that is measured
 
@@ -209,7 +213,7 @@ state_order_of_words (name ∷ word ∷ words) = if bytes_eq name (codes "profil
 
 -- one that is no order of this kind may be one of those above
 abbrev pub state_order_of : List ℕ → Option StateOrder
-state_order_of line = if nat_le (length line) 128 then state_order_of_words (words_of line) else None
+state_order_of line = if nat_le (length line) 512 then state_order_of_words (words_of line) else None
 
 -- ---- `restore N`, which asks for N bytes behind its newline
 
@@ -218,7 +222,7 @@ restore_of_words (name ∷ word ∷ []) = if bytes_eq name (codes "restore") the
 restore_of_words words = None
 
 abbrev pub restore_of : List ℕ → Option ℕ
-restore_of line = if nat_le (length line) 128 then restore_of_words (words_of line) else None
+restore_of line = if nat_le (length line) 512 then restore_of_words (words_of line) else None
 
 -- how many bytes a line asks for
 abbrev pub asked_by : Option ℕ → ℕ

@@ -4,7 +4,7 @@ ghost use Rattle.std.specs.Prelude.{◌≡◌, [], codes, drop, length, true, if
 ghost use Rattle.std.specs.Io.KnownBytes.{Appends};
 ghost use Rattle.exact_text.specs.Written.{AppendsProperPrefix};
 ghost use Rattle.memory_map.specs.BusRules.{bus_rules};
-ghost use Rattle.machine_lines.specs.Texts.{count_line, memory_text, state_text};
+ghost use Rattle.machine_lines.specs.Texts.{count_line};
 ghost use Rattle.snapshot.specs.Encoding.{encoded, snapshot_length};
 ghost use Rattle.snapshot.specs.Legal.{IsOfImage};
 ghost use Rattle.std.specs.List.{flat_map};
@@ -25,7 +25,7 @@ use cartridge::Cartridge;
 use debugger::{Debugger, register_line, write_stepped};
 use exact_text::{Output, OutputFailed, digest_digits, number_digits, word_digits, write_whole};
 use machine::{Machine, Processor, StepKind, Stepped};
-use machine_lines::{write_count, write_memory, write_state};
+use machine_lines::{write_count, write_look};
 use memory_map::Bus;
 use sha2::{Digest, Sha256};
 use snapshot::encode;
@@ -182,11 +182,6 @@ fn obey<W: Output>(
             Answered { run, written }
         }
         Order::Serial => write_serial(run, out),
-        Order::Picture => {
-            let run = run.draw_late();
-            let written = run.debugger().machine().picture().write_pgm(out);
-            Answered { run, written }
-        }
         Order::Registers => {
             let written = write_registers(&run, out);
             Answered { run, written }
@@ -199,17 +194,13 @@ fn obey<W: Output>(
             let written = run.debugger().list(address, count, out);
             Answered { run, written }
         }
-        Order::Memory { address, count } => {
-            let written = write_memory(run.debugger().machine(), address, count, out);
+        Order::Look(look) => {
+            let run = run.drawn_for(look);
+            let written = write_look(look, run.debugger().machine(), cartridge, snapshot, out);
             Answered { run, written }
         }
         Order::Bank(address) => {
             let written = write_bank(&run, rom, address, out);
-            Answered { run, written }
-        }
-        Order::State => {
-            let run = run.draw_late();
-            let written = write_state(run.debugger().machine(), cartridge, snapshot, out);
             Answered { run, written }
         }
         Order::Digest => {

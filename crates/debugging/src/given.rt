@@ -17,10 +17,10 @@ use machine_lines::{TakenState, take_state};
 #[derive(Drop)]
 pub(crate) enum NextGiven {
     /// A line that asks for no bytes, without its newline.
-    Line(ArrayVec<u8, 128>),
+    Line(ArrayVec<u8, 512>),
     /// `restore N` and N bytes, which are a state of the cartridge by their header and their number.
     State,
-    /// A line of more than 128 bytes; or `restore N` and N bytes, which are no state of the cartridge.
+    /// A line of more than 512 bytes; or `restore N` and N bytes, which are no state of the cartridge.
     Wrong,
     /// `restore N` and fewer bytes, up to the end of the input.
     Last,

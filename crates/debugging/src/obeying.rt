@@ -81,7 +81,7 @@ impl LineDebugger {
     }
 
     /// Obeys the lines of an input as they come, each before more is read, with the answer to each on `out`. An empty line is counted and
-    /// skipped, and the last may lack its newline. A wrong line, which one of more than 128 bytes is, is answered by `wrong N`, N its number
+    /// skipped, and the last may lack its newline. A wrong line, which one of more than 512 bytes is, is answered by `wrong N`, N its number
     /// from 1. No more than 2^64 - 2 lines are read.
     ///
     /// | Line | What is done | Answer |

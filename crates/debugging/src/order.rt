@@ -12,7 +12,9 @@ ghost use Rattle.debugging.specs.Words.{bytes_left, words_after};
 
 use crate::registers::{RegisterValue, read_register};
 use arrayvec::ArrayVec;
-use machine_lines::{read_address, read_hex, read_room, read_size, read_slot};
+use machine_lines::{
+    Look, read_address, read_hex, read_look, read_room, read_size, read_slot,
+};
 use script::{Move, cut, read_byte, read_count, read_line};
 
 const SPACE: u8 = b' ';
@@ -24,7 +26,7 @@ const COLON: u8 = b':';
 const DASH: u8 = b'-';
 
 /// The most bytes of a line.
-const MOST_BYTES: usize = 128;
+const MOST_BYTES: usize = 512;
 
 /// The most digits of a bank.
 const BANK_DIGITS: usize = 3;
@@ -95,16 +97,12 @@ pub enum Order {
     History(u32),
     /// A listing of so many instructions.
     List { address: u16, count: u32 },
-    /// So many bytes of memory.
-    Memory { address: u16, count: u32 },
+    /// A look at the machine.
+    Look(Look),
     /// The bank that is mapped at an address.
     Bank(u16),
     /// What was sent over the serial port since it was last told.
     Serial,
-    /// The picture as it is now.
-    Picture,
-    /// The machine's snapshot.
-    State,
     /// The digest of the machine's snapshot.
     Digest,
 }
@@ -122,7 +120,7 @@ pub enum StateOrder {
     Profile { steps: u32, conditions: Conditions },
 }
 
-/// What one line asks for, without its newline. `None` if it is wrong, or if it has more than 128 bytes; an empty line is wrong here.
+/// What one line asks for, without its newline. `None` if it is wrong, or if it has more than 512 bytes; an empty line is wrong here.
 pub fn read_order(line: &[u8]) -> Option<Order>
     ensures { result ≡ order_of line.now }
 {
@@ -131,7 +129,10 @@ pub fn read_order(line: &[u8]) -> Option<Order>
     }
     match read_line(line) {
         Some(a_move) => order_of_move(a_move),
-        None => read_words(line),
+        None => match read_look(line) {
+            Some(look) => Some(Order::Look(look)),
+            None => read_words(line),
+        },
     }
 }
 
@@ -264,12 +265,6 @@ fn with_none(name: &[u8]) -> Option<Order>
     if is_word(name, b"serial") {
         return Some(Order::Serial);
     }
-    if is_word(name, b"picture") {
-        return Some(Order::Picture);
-    }
-    if is_word(name, b"state") {
-        return Some(Order::State);
-    }
     if is_word(name, b"digest") {
         return Some(Order::Digest);
     }
@@ -301,11 +296,6 @@ fn with_two(name: &[u8], word: &[u8], other: &[u8]) -> Option<Order>
         let address = read_address(word)?;
         let count = read_room(other)?;
         return Some(Order::List { address, count });
-    }
-    if is_word(name, b"memory") {
-        let address = read_address(word)?;
-        let count = read_room(other)?;
-        return Some(Order::Memory { address, count });
     }
     if is_word(name, b"until-op") {
         let steps = read_steps(word)?;

@@ -24,6 +24,7 @@ use cartridge::Cartridge;
 use circular_buffer::HeapCircularBuffer;
 use debugger::{Breaks, Debugger, RunRoom, WatchedStep};
 use machine::{Executed, Input, Machine, Processor, Stepped, Watch, Watched};
+use machine_lines::{Look, shows_picture};
 use memory_map::Bus;
 use snapshot::{decode_into, powered};
 use std::alloc::{AllocError, Global};
@@ -439,6 +440,16 @@ impl Run {
             debugger: Debugger::from_parts(fresh, executed),
             sent,
         })
+    }
+
+    /// Draws what was only noted, so that the picture is read quickly, where a look shows it. No value changes.
+    pub(crate) fn drawn_for(self, look: Look) -> Run
+        ensures { result ≡ self }
+    {
+        if !shows_picture(look) {
+            return self;
+        }
+        self.draw_late()
     }
 
     /// Draws what was only noted, so that the picture is read quickly. No value changes.

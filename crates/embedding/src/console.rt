@@ -7,14 +7,13 @@ ghost use Rattle.machine.specs.Machine.{Frame};
 ghost use Rattle.snapshot.specs.Legal.{IsMachineOf};
 ghost use Rattle.state_header.specs.States.{state_length, state_of};
 ghost use Rattle.session.specs.Resting.{IsOfItsRom, own_prop};
-ghost use Rattle.embedding.specs.Orders.{shades_of, bytes_from, IsNewCause, IsRestoreCause};
+ghost use Rattle.machine.specs.Looking.{bytes_from, shades_of};
+ghost use Rattle.embedding.specs.Orders.{IsNewCause, IsRestoreCause};
 ghost use Rattle.refusals.specs.declared.refusal.Refusal.TheVariants.{Memory};
 
-use crate::looking::write_memory;
-use crate::shades::write_shades;
 use crate::states::{named, write_state};
 use cartridge::{Cartridge, refusal};
-use machine::{Input, Machine};
+use machine::{Input, Machine, write_memory, write_shades};
 use refusals::Refusal;
 use session::machine_at_power_on;
 use snapshot::{decode_into, powered};

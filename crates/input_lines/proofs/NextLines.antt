@@ -14,7 +14,7 @@ use Rattle.input_lines.proofs.KnownLeft.{left_read, none_left, nothing_first, li
 cut_line : (next : NextLine) (line : List ℕ) (old new since : Option (List ℕ)) → HasNoNewline line → IsCut next line → TakesLine line old new → IsNextLine next old new since
 cut_line (Line text) line old new since one cut takes =
     let is = sym cut.0 in
-    (subst HasNoNewline is one, subst (λ (l : List ℕ). length l ≤ 128) is cut.1, subst (λ (l : List ℕ). TakesLine l old new) is takes)
+    (subst HasNoNewline is one, subst (λ (l : List ℕ). length l ≤ 512) is cut.1, subst (λ (l : List ℕ). TakesLine l old new) is takes)
 cut_line TooLong line old new since one cut takes = (line, one, cut, takes)
 cut_line End line old new since one cut takes = absurd cut
 cut_line Failed line old new since one cut takes = absurd cut
@@ -60,11 +60,11 @@ skips_more old b skipped unread since took more = Consumes-trans old b (left_of 
 pub one_still : (skipped more : List ℕ) → HasNoNewline skipped → HasNoNewline more → HasNoNewline (skipped ++ more)
 one_still skipped more first second = All-append (λ byte. byte ≢ 10) skipped more first second
 
-pub longer : (skipped more : List ℕ) → 128 < length skipped → 128 < length (skipped ++ more)
+pub longer : (skipped more : List ℕ) → 512 < length skipped → 512 < length (skipped ++ more)
 longer skipped more long = omega (arith, long, length-append skipped more)
 
 -- up to its newline
-pub skips_to_newline : (old b : Option (List ℕ)) (skipped unread rest : List ℕ) (since : Option (List ℕ)) → HasNoNewline skipped → 128 < length skipped → Consumes old b skipped → Consumes b (left_of unread since) []
+pub skips_to_newline : (old b : Option (List ℕ)) (skipped unread rest : List ℕ) (since : Option (List ℕ)) → HasNoNewline skipped → 512 < length skipped → Consumes old b skipped → Consumes b (left_of unread since) []
     → position_or_len (λ byte. byte == 10) unread < length unread → rest ≡ behind_first_line unread → IsNextLine TooLong old (left_of rest since) since
 skips_to_newline old b skipped unread rest since one long took more less rest_is =
     let line = skipped ++ first_line unread in
@@ -79,18 +79,18 @@ skips_to_newline old b skipped unread rest since one long took more less rest_is
 none_more : (old b : Option (List ℕ)) (skipped unread : List ℕ) (since : Option (List ℕ)) → Consumes old b skipped → Consumes b (left_of unread since) [] → Consumes old (left_of unread since) skipped
 none_more old b skipped unread since took more = subst (Consumes old (left_of unread since)) (append-nil skipped) (Consumes-trans old b (left_of unread since) skipped [] took more)
 
-pub skips_to_end : (old b : Option (List ℕ)) (skipped unread : List ℕ) (since : Option (List ℕ)) → HasNoNewline skipped → 128 < length skipped → Consumes old b skipped → Consumes b (left_of unread since) []
+pub skips_to_end : (old b : Option (List ℕ)) (skipped unread : List ℕ) (since : Option (List ℕ)) → HasNoNewline skipped → 512 < length skipped → Consumes old b skipped → Consumes b (left_of unread since) []
     → unread ≡ [] → IsAtEnd since → IsNextLine TooLong old (left_of unread since) since
 skips_to_end old b skipped unread since one long took more none at_end =
     let some : 0 < length skipped = omega (arith, long) in
     (skipped, one, long, inr (some, none_more old b skipped unread since took more, subst (λ (l : List ℕ). IsAtEnd (left_of l since)) (sym none) (none_left since at_end)))
 
-pub skips_failed : (old : Option (List ℕ)) (skipped unread : List ℕ) (since : Option (List ℕ)) → HasNoNewline skipped → 128 < length skipped → Consumes old (left_of unread since) skipped
+pub skips_failed : (old : Option (List ℕ)) (skipped unread : List ℕ) (since : Option (List ℕ)) → HasNoNewline skipped → 512 < length skipped → Consumes old (left_of unread since) skipped
     → unread ≡ [] → IsNextLine Failed old (left_of unread since) since
 skips_failed old skipped unread since one long took none =
     let all : skipped ++ unread ≡ skipped = ap (λ (l : List ℕ). skipped ++ l) none ∙ append-nil skipped in
     (skipped, one, subst (Consumes old since) all (left_read old unread since skipped took), inr (long, took))
 
-pub skips_failed_there : (old b : Option (List ℕ)) (skipped unread : List ℕ) (since : Option (List ℕ)) → HasNoNewline skipped → 128 < length skipped → Consumes old b skipped → Consumes b (left_of unread since) []
+pub skips_failed_there : (old b : Option (List ℕ)) (skipped unread : List ℕ) (since : Option (List ℕ)) → HasNoNewline skipped → 512 < length skipped → Consumes old b skipped → Consumes b (left_of unread since) []
     → unread ≡ [] → IsNextLine Failed old (left_of unread since) since
 skips_failed_there old b skipped unread since one long took more none = skips_failed old skipped unread since one long (none_more old b skipped unread since took more) none

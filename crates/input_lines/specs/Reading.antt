@@ -37,18 +37,18 @@ IsFilled FillFailed most unread since = position_or_len (λ byte. byte == 10) un
 abbrev pub TakesLine : List ℕ → (old new : Option (List ℕ)) → Type 0
 TakesLine line old new = Consumes old new (line ++ 10 ∷ []) ⊎ ((0 < length line) × Consumes old new line × IsAtEnd new)
 
--- a line that is taken is given if it has 128 bytes at most
+-- a line that is taken is given if it has 512 bytes at most
 abbrev pub IsCut : NextLine → List ℕ → Type 0
-IsCut (Line text) line = (text.items ≡ line) × (length line ≤ 128)
-IsCut TooLong line = 128 < length line
+IsCut (Line text) line = (text.items ≡ line) × (length line ≤ 512)
+IsCut TooLong line = 512 < length line
 IsCut End line = ⊥
 IsCut Failed line = ⊥
 
--- The next line: one of 128 bytes at most, a longer one, none at the end, or the front of one at a read that failed. Such a front is
+-- The next line: one of 512 bytes at most, a longer one, none at the end, or the front of one at a read that failed. Such a front is
 -- not taken, unless it is longer already.
 abbrev pub IsNextLine : NextLine → (old new since : Option (List ℕ)) → Type 0
-IsNextLine (Line text) old new since = HasNoNewline text.items × (length text.items ≤ 128) × TakesLine text.items old new
-IsNextLine TooLong old new since = (line : List ℕ) × HasNoNewline line × (128 < length line) × TakesLine line old new
+IsNextLine (Line text) old new since = HasNoNewline text.items × (length text.items ≤ 512) × TakesLine text.items old new
+IsNextLine TooLong old new since = (line : List ℕ) × HasNoNewline line × (512 < length line) × TakesLine line old new
 IsNextLine End old new since = Consumes old since [] × IsAtEnd since
 IsNextLine Failed old new since =
-    (rest : List ℕ) × HasNoNewline rest × Consumes old since rest × (Consumes old new [] ⊎ ((128 < length rest) × Consumes old new rest))
+    (rest : List ℕ) × HasNoNewline rest × Consumes old since rest × (Consumes old new [] ⊎ ((512 < length rest) × Consumes old new rest))

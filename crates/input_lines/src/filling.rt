@@ -10,7 +10,7 @@ use arrayvec::ArrayVec;
 const NEWLINE: u8 = b'\n';
 
 /// What was read and not yet taken.
-pub type Unread = ArrayVec<u8, 1024>;
+pub type Unread = ArrayVec<u8, 1408>;
 
 /// How a read went.
 #[derive(Clone, Copy)]
@@ -50,7 +50,7 @@ pub fn line_length(bytes: &[u8]) -> usize
 
 /// One read.
 pub(crate) fn read_more<R: LineInput>(unread: &mut Unread, input: &mut R) -> More
-    requires { length unread.old.items ≤ 128 }
+    requires { length unread.old.items ≤ 512 }
     ensures left { Consumes (left_of unread.old.items (R.remaining input.old))
         (left_of unread.new.items (R.remaining input.new)) [] }
     ensures more { HasReadMore result unread.old.items unread.new.items (R.remaining input.new) }
@@ -72,7 +72,7 @@ pub(crate) fn read_more<R: LineInput>(unread: &mut Unread, input: &mut R) -> Mor
 /// to 896 bytes are read at once, and nothing is read if that much is there at first. What was
 /// read stays in `unread`, also where the input ends or fails.
 pub fn fill<R: LineInput>(unread: &mut Unread, input: &mut R, most: usize) -> Filled
-    requires { most ≤ 128 }
+    requires { most ≤ 512 }
     ensures left { Consumes (left_of unread.old.items (R.remaining input.old))
         (left_of unread.new.items (R.remaining input.new)) [] }
     ensures filled { IsFilled result most unread.new.items (R.remaining input.new) }

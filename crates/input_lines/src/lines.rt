@@ -9,14 +9,14 @@ use crate::input::LineInput;
 use arrayvec::ArrayVec;
 
 /// The most bytes of a line.
-const MOST: usize = 128;
+const MOST: usize = 512;
 
 /// What comes next.
 #[derive(Clone, Debug, Drop)]
 pub enum NextLine {
     /// A line, without its newline.
-    Line(ArrayVec<u8, 128>),
-    /// A line of more than 128 bytes, which was taken too.
+    Line(ArrayVec<u8, 512>),
+    /// A line of more than 512 bytes, which was taken too.
     TooLong,
     /// The end of the input.
     End,
@@ -48,7 +48,7 @@ fn take_line(unread: &mut Unread) -> NextLine
 
 /// Drops what there is of a line that is too long, and reads up to its newline.
 fn skip_line<R: LineInput>(unread: &mut Unread, input: &mut R) -> NextLine
-    requires long { 128 < length unread.old.items }
+    requires long { 512 < length unread.old.items }
     requires one { position_or_len (λ byte. byte == 10) unread.old.items ≡ length unread.old.items }
     ensures line { IsNextLine result (left_of unread.old.items (R.remaining input.old))
         (left_of unread.new.items (R.remaining input.new))
@@ -72,10 +72,10 @@ fn skip_line<R: LineInput>(unread: &mut Unread, input: &mut R) -> NextLine
 }
 
 /// Reads the next line, without its newline: first of what was read before, then of the input. The
-/// last line may lack its newline. A line of more than 128 bytes is read up to its newline, or to
+/// last line may lack its newline. A line of more than 512 bytes is read up to its newline, or to
 /// the end, and is `TooLong`; the line behind it is the next one. `End` is answered when nothing is
 /// left. `Failed` is answered when a read fails: what was read of the line until then has no newline;
-/// it stays in `unread`, unless it is more than 128 bytes, of which some may be gone.
+/// it stays in `unread`, unless it is more than 512 bytes, of which some may be gone.
 pub fn next_line<R: LineInput>(unread: &mut Unread, input: &mut R) -> NextLine
     ensures line { IsNextLine result (left_of unread.old.items (R.remaining input.old))
         (left_of unread.new.items (R.remaining input.new))

@@ -6,6 +6,7 @@ pub mod Sent
 pub mod Watched
 pub mod WatchedLaws
 pub mod FastRuns
+pub mod Looking
 -- what only the code needs
 pub mod Waiting
 pub mod WaitingLoop

@@ -8,6 +8,7 @@ mod counting_loop;
 mod frame;
 pub mod input;
 pub mod laws;
+pub mod looking;
 mod loops;
 pub mod machine;
 pub mod machine_without_memory;
@@ -20,6 +21,7 @@ pub mod watch;
 pub mod watched;
 
 pub use input::Input;
+pub use looking::{PICTURE_LENGTH, write_memory, write_shades};
 pub use machine::Machine;
 pub use machine_without_memory::MachineWithoutMemory;
 pub use memory_map::{BusWithoutMemory, Region};

@@ -3,3 +3,4 @@ pub mod Texts
 pub mod KeptStates
 pub mod Slots
 pub mod Taking
+pub mod Looks

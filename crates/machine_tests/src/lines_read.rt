@@ -87,26 +87,26 @@ fn lines_end_in_a_newline_or_at_the_end(rt: HostRuntime) {
     );
 }
 
-/// Lines of 128, 129, 129 and 128 bytes, and the last ones of 128 and 129 without a newline.
+/// Lines of 512, 513, 513 and 512 bytes, and the last ones of 512 and 513 without a newline.
 #[test]
-fn a_line_has_128_bytes_at_most(rt: HostRuntime) {
-    let line = [b'a'; 128];
-    let mut bytes = [b'a'; 647];
-    bytes[128] = b'\n';
-    bytes[258] = b'\n';
-    bytes[388] = b'\n';
-    bytes[517] = b'\n';
+fn a_line_has_512_bytes_at_most(rt: HostRuntime) {
+    let line = [b'a'; 512];
+    let mut bytes = [b'a'; 2567];
+    bytes[512] = b'\n';
+    bytes[1026] = b'\n';
+    bytes[1540] = b'\n';
+    bytes[2053] = b'\n';
     let wanted = [
         Wanted::Line(&line),
         Wanted::TooLong,
         Wanted::TooLong,
         Wanted::Line(&line),
     ];
-    reads(&rt, &bytes[..518], false, &wanted, b"");
+    reads(&rt, &bytes[..2054], false, &wanted, b"");
     for (end, last) in [
-        (518, Wanted::End),
-        (646, Wanted::Line(&line)),
-        (647, Wanted::TooLong),
+        (2054, Wanted::End),
+        (2566, Wanted::Line(&line)),
+        (2567, Wanted::TooLong),
     ] {
         let mut all = [Wanted::End; 6];
         all[..4].copy_from_slice(&wanted);
@@ -142,7 +142,7 @@ fn a_long_line_is_skipped(rt: HostRuntime) {
     );
 }
 
-/// What was read of a line stays, if it has 128 bytes at most.
+/// What was read of a line stays, if it has 512 bytes at most.
 #[test]
 fn a_read_fails(rt: HostRuntime) {
     reads(&rt, b"", true, &[Wanted::Failed, Wanted::Failed], b"");
@@ -153,7 +153,7 @@ fn a_read_fails(rt: HostRuntime) {
         &[Wanted::Line(b"ab"), Wanted::Failed, Wanted::Failed],
         b"cd",
     );
-    let line = [b'a'; 300];
-    reads(&rt, &line[..128], true, &[Wanted::Failed], &line[..128]);
+    let line = [b'a'; 1200];
+    reads(&rt, &line[..512], true, &[Wanted::Failed], &line[..512]);
     reads(&rt, &line, true, &[Wanted::Failed], b"");
 }

@@ -12,10 +12,11 @@ use Rattle.input_lines.proofs.Newlines.{is_there, no_newline, no_newline_at_all,
 use Rattle.input_lines.proofs.KnownLeft.{none_left, line_taken, all_taken}
 use Rattle.script.specs.Line.{move_of_line, words_of}
 use Rattle.script.proofs.Words.{split_begins}
-use Rattle.streaming.specs.Orders.{needs_states, order_by, order_for, order_of, order_of_words}
+use Rattle.streaming.specs.Orders.{needs_states, order_by, order_for, order_of, state_order_of}
 use Rattle.streaming.specs.Reading.{IsAsked, IsNext}
 use Rattle.streaming.specs.declared.order.Order.{Order}
-use Rattle.streaming.specs.declared.order.Order.TheVariants.{Make, Picture}
+use Rattle.streaming.specs.declared.order.Order.TheVariants.{Make, Look}
+use Rattle.machine_lines.specs.declared.looks.Look.TheVariants.{Shades}
 use Rattle.streaming.specs.declared.next_order.Next.{Next}
 use Rattle.streaming.specs.declared.next_order.Next.TheVariants.{Line, Wrong, End, Failed}
 
@@ -25,15 +26,14 @@ use Rattle.streaming.specs.declared.next_order.Next.TheVariants.{Line, Wrong, En
 abbrev IsCutAt : List ℕ → List ℕ → Option (Bor (List ℕ)) → Type 0
 IsCutAt text word rest = MatchOption rest (words_of text ≡ word ∷ []) (λ after. words_of text ≡ word ∷ words_of after.now)
 
-pub too_many_words : (line name word other : List ℕ) (a b c : Option (Bor (List ℕ))) (x y : Bor (List ℕ)) → IsCutAt line name a → a ≡ Some x → IsCutAt x.now word b → b ≡ Some y → IsCutAt y.now other c
-    → true ≡ is_some c → None ≡ order_of_words (words_of line)
-too_many_words line name word other a b None x y p ea q eb r more = absurd (cc)
-too_many_words line name word other a b (Some z) x y p ea q eb r more =
+pub too_many_words : (line name word : List ℕ) (a b : Option (Bor (List ℕ))) (x : Bor (List ℕ)) → IsCutAt line name a → a ≡ Some x → IsCutAt x.now word b
+    → true ≡ is_some b → None ≡ state_order_of (words_of line)
+too_many_words line name word a None x p ea q more = absurd (cc)
+too_many_words line name word a (Some y) x p ea q more =
     let one = rw ea at p in
-    let two = rw eb at q in
-    let rest = split_begins (λ byte. byte == 32) z.now in
-    let words : words_of line ≡ name ∷ word ∷ other ∷ rest.0 ∷ rest.1 = rw (one, two, r, rest.2) refl in
-    sym (ap order_of_words words)
+    let rest = split_begins (λ byte. byte == 32) y.now in
+    let words : words_of line ≡ name ∷ word ∷ rest.0 ∷ rest.1 = rw (one, q, rest.2) refl in
+    sym (ap state_order_of words)
 
 -- ---- what an order needs
 
@@ -46,19 +46,15 @@ for_states false (Some first) order is needs = elim (cases_Bool (needs_states fi
 ]
   where
     order_or : Option Order → Order
-    order_or None = Picture
+    order_or None = Look Shades
     order_or (Some o) = o
 
-by_states : (picture states : Bool) (o : Option Order) (order : Order) → (if picture then Some Picture else order_for states o) ≡ Some order → needs_states order ≡ true → states ≡ true
-by_states true states o order is needs = absurd (true≢false (sym needs ∙ sym (let same : Picture ≡ order = cc in ap needs_states same)))
-by_states false states o order is needs = for_states states o order is needs
-
-in_states : (short picture states : Bool) (o : Option Order) (order : Order) → (if short then (if picture then Some Picture else order_for states o) else None) ≡ Some order → needs_states order ≡ true → states ≡ true
-in_states true picture states o order is needs = by_states picture states o order is needs
-in_states false picture states o order is needs = absurd (cc)
+in_states : (short states : Bool) (o : Option Order) (order : Order) → (if short then order_for states o else None) ≡ Some order → needs_states order ≡ true → states ≡ true
+in_states true states o order is needs = for_states states o order is needs
+in_states false states o order is needs = absurd (cc)
 
 pub needs_are : (states : Bool) (line : List ℕ) (order : Order) → order_of states line ≡ Some order → needs_states order ≡ true → states ≡ true
-needs_are states line order is needs = in_states (nat_le (length line) 64) (bytes_eq line (codes "picture")) states (order_by (option_map Make (move_of_line line)) line) order is needs
+needs_are states line order is needs = in_states (nat_le (length line) 64) states (order_by (option_map Make (move_of_line line)) line) order is needs
 
 -- ---- the next line
 

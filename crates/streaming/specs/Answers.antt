@@ -1,18 +1,17 @@
 -- What a stream answers to its orders.
 use Rattle.std.specs.Prelude.{◌==◌, ◌+◌, ℕ, List, [], ◌∷◌, ◌++◌, codes, length, if◌then◌else◌}
-use Rattle.machine.specs.Machine.{MachineState, after, picture_rows}
+use Rattle.machine.specs.Machine.{MachineState, after}
 use Rattle.machine.specs.Machine.{Input, State as StateInput}
-use Rattle.picture_unit.specs.Pgm.{picture_text}
-use Rattle.state_header.specs.States.{state_of}
 use Rattle.script.specs.declared.moves.Move.TheVariants.{Save}
 use Rattle.session.specs.Stands.{Position}
 use Rattle.playing.specs.Report.{line_due, unsaved_after, unsaved_behind_move, lines_of_move}
 use Rattle.playing.specs.Lines.{Line, resumed_line}
 use Rattle.script.specs.Inputs.{inputs_of_move}
-use Rattle.machine_lines.specs.Texts.{count_line, memory_text, state_text}
+use Rattle.machine_lines.specs.Looks.{look_text}
+use Rattle.machine_lines.specs.Texts.{count_line}
 use Rattle.streaming.specs.Orders.{Deed, Does, GoesOnWith}
 use Rattle.streaming.specs.declared.order.Order.{Order}
-use Rattle.streaming.specs.declared.order.Order.TheVariants.{Make, Picture, State, Memory, Keep, Back}
+use Rattle.streaming.specs.declared.order.Order.TheVariants.{Make, Look, Keep, Back}
 
 -- ---- the inputs
 
@@ -48,15 +47,10 @@ unsaved_behind_deeds unsaved (deed ∷ deeds) = unsaved_behind_deeds (unsaved_be
 abbrev pub answer : List ℕ → Line
 answer text = record { told = 0; text = text }
 
-abbrev pub picture_line : MachineState → Line
-picture_line machine = answer (picture_text (picture_rows machine))
-
 -- From a machine and a count of inputs of which so many are unsaved: the lines of the saves that are due, or what the order asks for.
 abbrev pub lines_of_order : MachineState → (count unsaved : ℕ) → Order → List Line
 lines_of_order machine count unsaved (Make move) = lines_of_move count unsaved move
-lines_of_order machine count unsaved Picture = picture_line machine ∷ []
-lines_of_order machine count unsaved State = answer (state_text (state_of machine)) ∷ []
-lines_of_order machine count unsaved (Memory address n) = answer (memory_text machine address n) ∷ []
+lines_of_order machine count unsaved (Look look) = answer (look_text look machine) ∷ []
 lines_of_order machine count unsaved (Keep k) = answer (count_line (codes "kept") k) ∷ []
 lines_of_order machine count unsaved order = []
 

@@ -11,20 +11,13 @@ use Rattle.script.specs.declared.moves.Move.{Move}
 use Rattle.script.specs.declared.moves.Move.TheVariants.{Power}
 use Rattle.script.specs.Line.{move_of_line, words_of}
 use Rattle.machine_lines.specs.KeptStates.{KeptMachine, kept_under}
-use Rattle.machine_lines.specs.Words.{address_of, room_of, size_of, slot_of}
+use Rattle.machine_lines.specs.Looks.{look_of}
+use Rattle.machine_lines.specs.Words.{size_of, slot_of}
+use Rattle.machine_lines.specs.declared.looks.Look.{Look}
 use Rattle.streaming.specs.declared.order.Order.{Order}
-use Rattle.streaming.specs.declared.order.Order.TheVariants.{Make, Picture, State, Memory, Keep, Back, Restore}
+use Rattle.streaming.specs.declared.order.Order.TheVariants.{Make, Look as Looks, Keep, Back, Restore}
 
 -- ---- a line
-
--- `memory ADDR N`, where both words were read
-abbrev pub memory_of : Option ℕ → Option ℕ → Option Order
-memory_of (Some address) (Some count) = Some (Memory address count)
-memory_of address count = None
-
--- `state`
-abbrev pub order_of_one : List ℕ → Option Order
-order_of_one name = if bytes_eq name (codes "state") then Some State else None
 
 -- `keep K`, `back K`, `restore N`
 abbrev pub order_of_two : List ℕ → List ℕ → Option Order
@@ -33,14 +26,17 @@ order_of_two name word =
     else (if bytes_eq name (codes "back") then option_map Back (slot_of word)
     else (if bytes_eq name (codes "restore") then option_map Restore (size_of word) else None))
 
-abbrev pub order_of_three : List ℕ → List ℕ → List ℕ → Option Order
-order_of_three name word other = if bytes_eq name (codes "memory") then memory_of (address_of word) (room_of other) else None
+abbrev pub state_order_of : List (List ℕ) → Option Order
+state_order_of (name ∷ word ∷ []) = order_of_two name word
+state_order_of words = None
+
+-- a look at the machine, or one of these
+abbrev pub look_or_state : Option Look → List (List ℕ) → Option Order
+look_or_state (Some look) words = Some (Looks look)
+look_or_state None words = state_order_of words
 
 abbrev pub order_of_words : List (List ℕ) → Option Order
-order_of_words (name ∷ []) = order_of_one name
-order_of_words (name ∷ word ∷ []) = order_of_two name word
-order_of_words (name ∷ word ∷ other ∷ []) = order_of_three name word other
-order_of_words words = None
+order_of_words words = look_or_state (look_of words) words
 
 abbrev pub is_power : Move → Bool
 is_power Power = true
@@ -65,12 +61,10 @@ abbrev pub order_by : Option Order → List ℕ → Option Order
 order_by (Some order) line = Some order
 order_by None line = order_of_words (words_of line)
 
--- A line of a script, `picture`, or one of the lines above; none where it is neither or has more than 64 bytes.
+-- A line of a script, or one of the lines above; none where it is neither or has more than 64 bytes.
 abbrev pub order_of : (states : Bool) → List ℕ → Option Order
 order_of states line =
-    if nat_le (length line) 64
-    then (if bytes_eq line (codes "picture") then Some Picture else order_for states (order_by (option_map Make (move_of_line line)) line))
-    else None
+    if nat_le (length line) 64 then order_for states (order_by (option_map Make (move_of_line line)) line) else None
 
 -- how many bytes an order asks for, and a line
 abbrev pub asked_by : Option Order → ℕ

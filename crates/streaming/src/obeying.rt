@@ -4,8 +4,6 @@ ghost use Rattle.std.specs.List.{All};
 ghost use Rattle.std.specs.Io.KnownBytes.{Appends};
 ghost use Rattle.exact_text.specs.Written.{AppendsProperPrefix};
 ghost use Rattle.cartridge.specs.Header.{ram_length_of};
-ghost use Rattle.machine.specs.Machine.{picture_rows};
-ghost use Rattle.picture_unit.specs.Pgm.{picture_text};
 ghost use Rattle.snapshot.specs.Encoding.{snapshot_length};
 ghost use Rattle.snapshot.specs.Legal.{IsLegalSnapshot};
 ghost use Rattle.snapshot.specs.Reading.{machine_in};
@@ -28,7 +26,7 @@ use cartridge::Cartridge;
 use exact_text::{Output, OutputFailed, write_whole};
 use input_lines::{LineInput, Unread};
 use machine::Region;
-use machine_lines::{KeptStates, TakenState, take_state, write_count, write_memory, write_state};
+use machine_lines::{KeptStates, Look, TakenState, shows_picture, take_state, write_count, write_look};
 use playing::{Playable, give_state, make_move, save_line, write_resumed};
 use script::Move;
 use snapshot::length;
@@ -68,18 +66,6 @@ pub(crate) enum Went {
     NoMemory,
 }
 
-/// Writes the picture of the machine as it is.
-fn draw<G: Playable, W: Output>(game: &G, out: &mut W) -> Result<(), OutputFailed>
-    ensures ok { OnOk result
-        (Appends (W.contents out.old) (W.contents out.new) (picture_text (picture_rows (G.machine game.now)))) }
-    ensures err { OnErr result
-        (AppendsProperPrefix (W.contents out.old) (W.contents out.new)
-        (picture_text (picture_rows (G.machine game.now)))) }
-    ensures failed { OnErr result (W.has_failed out.new ≡ true) }
-{
-    game.machine().picture().write_pgm(out)
-}
-
 /// Makes a move. The answer is whether there was memory for it.
 fn obey_move<G: Playable, W: Output>(
     game: &mut G,
@@ -105,63 +91,36 @@ fn obey_move<G: Playable, W: Output>(
     make_move(game, alloc, cartridge, a_move, out)
 }
 
-/// Writes a picture.
-fn obey_picture<G: Playable, W: Output>(game: &mut G, out: &mut W) -> Result<(), G::Fault>
-    ensures obeyed { OnOk result
-        (AdvancesByDeeds ⟦<G as Playable>⟧ game.old game.new (W.contents out.old) (W.contents out.new) (Does Order.Picture ∷
-        [])) }
-    ensures stopped { IfErr result (λ why.
-        StopsByDeeds ⟦<G as Playable>⟧ game.old game.new (W.contents out.old) (W.contents out.new)
-        (W.has_failed out.new ≡ true) (Does Order.Picture ∷ []) why) }
-    ensures same { game.new ≡ game.old }
+/// Draws what was only noted, where a look shows it. No value changes.
+fn draw_for<G: Playable>(game: &mut G, look: Look)
+    ensures { game.new ≡ game.old }
 {
-    game.draw_late();
-    match draw(game, out) {
-        Ok(()) => Ok(()),
-        Err(_) => Err(G::unwritten()),
+    if shows_picture(look) {
+        game.draw_late();
     }
 }
 
-/// Writes the machine's state. There is room for its snapshot.
-fn obey_state<G: Playable, W: Output>(
+/// Writes what is looked at. There is room for the machine's snapshot.
+fn obey_look<G: Playable, W: Output>(
     game: &mut G,
     cartridge: &Cartridge,
     snapshot: &mut [u8],
+    look: Look,
     out: &mut W,
 ) -> Result<(), G::Fault>
     requires of { G.rom game.old ≡ cartridge.now }
     requires room { length snapshot.old ≡ snapshot_length (ram_length_of (G.rom game.old)) }
     ensures obeyed { OnOk result
-        (AdvancesByDeeds ⟦<G as Playable>⟧ game.old game.new (W.contents out.old) (W.contents out.new) (Does Order.State ∷ [])) }
+        (AdvancesByDeeds ⟦<G as Playable>⟧ game.old game.new (W.contents out.old) (W.contents out.new) (Does (Order.Look look) ∷
+        [])) }
     ensures stopped { IfErr result (λ why.
         StopsByDeeds ⟦<G as Playable>⟧ game.old game.new (W.contents out.old) (W.contents out.new)
-        (W.has_failed out.new ≡ true) (Does Order.State ∷ []) why) }
+        (W.has_failed out.new ≡ true) (Does (Order.Look look) ∷ []) why) }
     ensures same { game.new ≡ game.old }
     ensures room { length snapshot.new ≡ length snapshot.old }
 {
-    game.draw_late();
-    match write_state(game.machine(), cartridge, snapshot, out) {
-        Ok(()) => Ok(()),
-        Err(_) => Err(G::unwritten()),
-    }
-}
-
-/// Writes bytes as the machine sees them.
-fn obey_memory<G: Playable, W: Output>(
-    game: &mut G,
-    address: u16,
-    count: u32,
-    out: &mut W,
-) -> Result<(), G::Fault>
-    ensures obeyed { OnOk result
-        (AdvancesByDeeds ⟦<G as Playable>⟧ game.old game.new (W.contents out.old) (W.contents out.new)
-        (Does (Order.Memory address count) ∷ [])) }
-    ensures stopped { IfErr result (λ why.
-        StopsByDeeds ⟦<G as Playable>⟧ game.old game.new (W.contents out.old) (W.contents out.new)
-        (W.has_failed out.new ≡ true) (Does (Order.Memory address count) ∷ []) why) }
-    ensures same { game.new ≡ game.old }
-{
-    match write_memory(game.machine(), address, count, out) {
+    draw_for(game, look);
+    match write_look(look, game.machine(), cartridge, snapshot, out) {
         Ok(()) => Ok(()),
         Err(_) => Err(G::unwritten()),
     }
@@ -385,15 +344,7 @@ fn obey<G: Playable, R: LineInput, W: Output>(
             Ok(false) => Ok(Went::NoMemory),
             Err(why) => Err(why),
         },
-        Order::Picture => match obey_picture(game, out) {
-            Ok(()) => Ok(Went::On),
-            Err(why) => Err(why),
-        },
-        Order::State => match obey_state(game, cartridge, &mut room.snapshot, out) {
-            Ok(()) => Ok(Went::On),
-            Err(why) => Err(why),
-        },
-        Order::Memory { address, count } => match obey_memory(game, address, count, out) {
+        Order::Look(look) => match obey_look(game, cartridge, &mut room.snapshot, look, out) {
             Ok(()) => Ok(Went::On),
             Err(why) => Err(why),
         },

@@ -3,9 +3,9 @@ ghost use Rattle.std.specs.Prelude.{◌≡◌, IfSome};
 ghost use Rattle.std.specs.Str.{bytes_eq};
 ghost use Rattle.script.specs.Line.{words_of};
 ghost use Rattle.streaming.specs.Numbers.{IsNumbered};
-ghost use Rattle.streaming.specs.Orders.{needs_states, order_of, order_of_one, order_of_three, order_of_two, order_of_words};
+ghost use Rattle.streaming.specs.Orders.{needs_states, order_of, order_of_two, order_of_words, state_order_of};
 
-use machine_lines::{read_address, read_room, read_size, read_slot};
+use machine_lines::{Look, read_look, read_size, read_slot};
 use script::{Move, cut, read_line};
 
 /// The most bytes of a line: one of more is wrong.
@@ -18,16 +18,8 @@ const SPACE: u8 = b' ';
 pub enum Order {
     /// A move, as in a script.
     Make(Move),
-    /// The picture of the machine as it is now.
-    Picture,
-    /// The machine's snapshot.
-    State,
-    /// Bytes as the machine sees them.
-    Memory {
-        address: u16,
-        /// How many: 1 to 65,536.
-        count: u32,
-    },
+    /// A look at the machine as it is now.
+    Look(Look),
     /// To keep the machine under a number, 0 to 999.
     Keep(u32),
     /// To go on with the machine that was kept under a number.
@@ -46,9 +38,6 @@ pub fn read_order(line: &[u8], states: bool) -> Option<Order>
     if line.len() > MOST_BYTES {
         return None;
     }
-    if line == b"picture".as_slice() {
-        return Some(Order::Picture);
-    }
     let order = match read_line(line) {
         Some(one) => Order::Make(one),
         None => read_words(line)?,
@@ -65,7 +54,7 @@ fn needs_states(order: Order) -> bool
 {
     match order {
         Order::Make(Move::Power) | Order::Keep(_) | Order::Back(_) | Order::Restore(_) => true,
-        Order::Make(_) | Order::Picture | Order::State | Order::Memory { .. } => false,
+        Order::Make(_) | Order::Look(_) => false,
     }
 }
 
@@ -73,36 +62,29 @@ fn read_words(line: &[u8]) -> Option<Order>
     ensures order { result ≡ order_of_words (words_of line.now) }
     ensures numbered { IfSome result IsNumbered }
 {
+    match read_look(line) {
+        Some(look) => Some(Order::Look(look)),
+        None => read_state_words(line),
+    }
+}
+
+/// An order about a state.
+fn read_state_words(line: &[u8]) -> Option<Order>
+    ensures order { result ≡ state_order_of (words_of line.now) }
+    ensures numbered { IfSome result IsNumbered }
+{
     let (name, rest) = cut(line, SPACE);
-    let Some(rest) = rest else {
-        return with_none(name);
-    };
-    let (word, rest) = cut(rest, SPACE);
-    let Some(rest) = rest else {
-        return with_one(name, word);
-    };
-    let (other, rest) = cut(rest, SPACE);
+    let (word, rest) = cut(rest?, SPACE);
     if rest.is_some() {
         return None;
     }
-    with_two(name, word, other)
+    with_one(name, word)
 }
 
 fn is_word(word: &[u8], name: &[u8]) -> bool
     ensures { result ≡ bytes_eq word.now name.now }
 {
     word == name
-}
-
-fn with_none(name: &[u8]) -> Option<Order>
-    ensures order { result ≡ order_of_one name.now }
-    ensures numbered { IfSome result IsNumbered }
-{
-    if is_word(name, b"state") {
-        Some(Order::State)
-    } else {
-        None
-    }
 }
 
 fn with_one(name: &[u8], word: &[u8]) -> Option<Order>
@@ -120,18 +102,6 @@ fn with_one(name: &[u8], word: &[u8]) -> Option<Order>
     if is_word(name, b"restore") {
         let size = read_size(word)?;
         return Some(Order::Restore(size));
-    }
-    None
-}
-
-fn with_two(name: &[u8], word: &[u8], other: &[u8]) -> Option<Order>
-    ensures order { result ≡ order_of_three name.now word.now other.now }
-    ensures numbered { IfSome result IsNumbered }
-{
-    if is_word(name, b"memory") {
-        let address = read_address(word)?;
-        let count = read_room(other)?;
-        return Some(Order::Memory { address, count });
     }
     None
 }

@@ -13,12 +13,12 @@ use Rattle.session.specs.Stands.{Position}
 use Rattle.playing.specs.Report.{unsaved_after, line_due, lines_of_inputs, lines_of_move}
 use Rattle.playing.specs.Lines.{Line, resumed_line, saved_line}
 use Rattle.script.specs.Inputs.{inputs_of_move}
-use Rattle.state_header.specs.States.{state_of}
-use Rattle.machine_lines.specs.Texts.{count_line, memory_text, state_text}
+use Rattle.machine_lines.specs.Looks.{look_text}
+use Rattle.machine_lines.specs.Texts.{count_line}
 use Rattle.streaming.specs.Orders.{Deed, Does, GoesOnWith}
-use Rattle.streaming.specs.Answers.{answer, other_text, inputs_of_order, inputs_of_deed, inputs_of_deeds, unsaved_behind_deed, lines_of_order, lines_of_deed, lines_of_deeds, picture_line, ended, stream_lines}
+use Rattle.streaming.specs.Answers.{answer, other_text, inputs_of_order, inputs_of_deed, inputs_of_deeds, unsaved_behind_deed, lines_of_order, lines_of_deed, lines_of_deeds, ended, stream_lines}
 use Rattle.streaming.specs.declared.order.Order.{Order}
-use Rattle.streaming.specs.declared.order.Order.TheVariants.{Make, Picture, State, Memory, Keep, Back, Restore}
+use Rattle.streaming.specs.declared.order.Order.TheVariants.{Make, Look, Keep, Back, Restore}
 use Rattle.streaming.proofs.Wholes.{ended_gives}
 
 -- no line tells more than this
@@ -61,9 +61,7 @@ move_at_most count unsaved Power = due_at_most unsaved (count + 1)
 
 order_at_most : (machine : MachineState) (count unsaved : ℕ) (order : Order) → AreAtMost (count + length (inputs_of_order order)) (lines_of_order machine count unsaved order)
 order_at_most machine count unsaved (Make move) = move_at_most count unsaved move
-order_at_most machine count unsaved Picture = one_at_most (count + 0) (picture_line machine) (omega arith)
-order_at_most machine count unsaved State = one_at_most (count + 0) (answer (state_text (state_of machine))) (omega arith)
-order_at_most machine count unsaved (Memory address n) = one_at_most (count + 0) (answer (memory_text machine address n)) (omega arith)
+order_at_most machine count unsaved (Look look) = one_at_most (count + 0) (answer (look_text look machine)) (omega arith)
 order_at_most machine count unsaved (Keep k) = one_at_most (count + 0) (answer (count_line (codes "kept") k)) (omega arith)
 order_at_most machine count unsaved (Back k) = none_at_most (count + 0)
 order_at_most machine count unsaved (Restore n) = none_at_most (count + 0)

@@ -19,11 +19,8 @@ returns-in-Set-clause-run g c = run_told c.write_whole-written-in-Set.result c.a
 pub returns-in-SetRegister-clause-run : goal.returns-in-SetRegister-clause-run
 returns-in-SetRegister-clause-run g c = run_told c.write_whole-written-in-SetRegister.result c.args.run c.in-SetRegister.is c.set_register-run.ensures
 
-pub returns-in-Picture-clause-run : goal.returns-in-Picture-clause-run
-returns-in-Picture-clause-run g c = run_told c.write_pgm-written.result c.args.run c.in-Picture.is c.draw_late-run.ensures
-
-pub returns-in-State-clause-run : goal.returns-in-State-clause-run
-returns-in-State-clause-run g c = run_told c.write_state-written.result c.args.run c.in-State.is c.draw_late-run-in-State.ensures
+pub returns-in-Look-clause-run : goal.returns-in-Look-clause-run
+returns-in-Look-clause-run g c = run_told c.write_look-written.result c.args.run c.in-Look.is c.drawn_for-run.ensures
 
 pub returns-in-Continue-clause-ok : goal.returns-in-Continue-clause-ok
 returns-in-Continue-clause-ok g c =

@@ -9,7 +9,7 @@ abbrev pub invariant-skipping : goal.invariant-skipping
 invariant-skipping g l = record {
   skipped : List ℕ;
   one : HasNoNewline skipped;
-  long : 128 < length skipped;
+  long : 512 < length skipped;
   none : l.unread.items ≡ [];
   read : Consumes (left_of l.fn.unread.items (g.R.LineInput.remaining l.fn.input)) (left_of l.unread.items (g.R.LineInput.remaining l.input)) skipped;
 }

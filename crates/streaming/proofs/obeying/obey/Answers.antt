@@ -8,7 +8,7 @@ use Rattle.streaming.specs.Orders.{Does, IsOwn, kept_behind, needs_states}
 use Rattle.streaming.specs.Obeying.{AdvancesByDeeds, StopsByDeeds}
 use Rattle.streaming.specs.Steps.{IsObeyed, IsRefused}
 use Rattle.streaming.specs.declared.order.Order.{Order}
-use Rattle.streaming.specs.declared.order.Order.TheVariants.{Make, Picture, State, Memory, Keep}
+use Rattle.streaming.specs.declared.order.Order.TheVariants.{Make, Look, Keep}
 use Rattle.streaming.proofs.obeying.obey.Goals as goal
 
 -- an order that leaves the machine to its moves, for which no bytes are taken
@@ -50,22 +50,10 @@ pub returns-in-Err-clause-refused : goal.returns-in-Err-clause-refused
 returns-in-Err-clause-refused g c machines kept = refused (Make c.in-Make.a_move) c.in-Make.is tt c.in-Err.ensures.stopped
 
 pub returns-in-Ok-clause-step : goal.returns-in-Ok-clause-step
-returns-in-Ok-clause-step g c machines kept = obeyed Picture c.in-Picture.is tt c.in-Ok.ensures.obeyed kept
+returns-in-Ok-clause-step g c machines kept = obeyed (Look c.in-Look.look) c.in-Look.is tt c.in-Ok.ensures.obeyed kept
 
-pub returns-in-Err-obey_picture-clause-refused : goal.returns-in-Err-obey_picture-clause-refused
-returns-in-Err-obey_picture-clause-refused g c machines kept = refused Picture c.in-Picture.is tt c.in-Err-obey_picture.ensures.stopped
-
-pub returns-in-Ok-obey_state-clause-step : goal.returns-in-Ok-obey_state-clause-step
-returns-in-Ok-obey_state-clause-step g c machines kept = obeyed State c.in-State.is tt c.in-Ok-obey_state.ensures.obeyed kept
-
-pub returns-in-Err-obey_state-clause-refused : goal.returns-in-Err-obey_state-clause-refused
-returns-in-Err-obey_state-clause-refused g c machines kept = refused State c.in-State.is tt c.in-Err-obey_state.ensures.stopped
-
-pub returns-in-Ok-obey_memory-clause-step : goal.returns-in-Ok-obey_memory-clause-step
-returns-in-Ok-obey_memory-clause-step g c machines kept = obeyed (Memory c.in-Memory.address c.in-Memory.count) c.in-Memory.is tt c.in-Ok-obey_memory.ensures.obeyed kept
-
-pub returns-in-Err-obey_memory-clause-refused : goal.returns-in-Err-obey_memory-clause-refused
-returns-in-Err-obey_memory-clause-refused g c machines kept = refused (Memory c.in-Memory.address c.in-Memory.count) c.in-Memory.is tt c.in-Err-obey_memory.ensures.stopped
+pub returns-in-Err-obey_look-clause-refused : goal.returns-in-Err-obey_look-clause-refused
+returns-in-Err-obey_look-clause-refused g c machines kept = refused (Look c.in-Look.look) c.in-Look.is tt c.in-Err-obey_look.ensures.stopped
 
 pub returns-in-Ok-true-obey_keep-clause-step : goal.returns-in-Ok-true-obey_keep-clause-step
 returns-in-Ok-true-obey_keep-clause-step g c machines kept =

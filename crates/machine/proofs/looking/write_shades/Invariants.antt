@@ -1,5 +1,5 @@
 use Rattle.std.proofs.Common.{◌≡◌, ◌-◌, ◌<◌, ℕ, ◌+◌, ◌*◌, ◌/◌, ◌%◌, [], get_or, All}
-use Rattle.embedding.proofs.shades.write_shades.Given as goal
+use Rattle.machine.proofs.looking.write_shades.Given as goal
 
 abbrev pub invariant-loop-y : goal.invariant-loop-y
 invariant-loop-y l = (k : ℕ) → k < 160 * l.y → get_or l.out k 0 ≡ 3 - get_or (get_or l.picture.rows (k / 160) []) (k % 160) 0

@@ -1,7 +1,7 @@
 use Rattle.std.proofs.Common.{◌-◌, ◌/◌, ◌%◌, [], get_or, arith}
 use Rattle.std.proofs.lemmas.List.FromFn.{fill_by_all}
-use Rattle.embedding.specs.Orders.{shades_of}
-use Rattle.embedding.proofs.shades.write_shades.Goals as goal
+use Rattle.machine.specs.Looking.{shades_of}
+use Rattle.machine.proofs.looking.write_shades.Goals as goal
 
 pub returns : goal.returns
 unfolding shades_of

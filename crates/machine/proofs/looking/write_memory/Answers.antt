@@ -2,7 +2,7 @@ use Rattle.std.proofs.Common.{◌+◌, ◌%◌, ℕ, arith, length}
 use Rattle.std.proofs.lemmas.List.Edits.{fill_by_more}
 use Rattle.std.proofs.lemmas.List.FromFn.{fill_by_all}
 use Rattle.memory_map.specs.Bus.{peeked}
-use Rattle.embedding.proofs.looking.write_memory.Goals as goal
+use Rattle.machine.proofs.looking.write_memory.Goals as goal
 
 pub loop-k-init : goal.loop-k-init
 loop-k-init c = λ k lt. absurd (omega arith)
