@@ -111,10 +111,10 @@ pub steps_kept : (n : ℕ) (m : MachineState) (b k : Buffer Executed) (seen : Li
 steps_kept n m b k seen is kept = rw (← is) (ap (history_as _) kept)
 
 -- a run of fast steps, whose instructions were put into the buffer together
-pub watched_steps_kept : (passes : Processor BusState → Type 0) (n : ℕ) (m t : MachineState) (b k : Buffer Executed) (seen : List Executed) →
-    t ≡ record m { processor = after_steps bus_rules n m.processor } → HasPassedTo passes n m.processor t.processor seen →
+pub watched_steps_kept : (passes : Processor BusState → Type 0) (n cycles : ℕ) (m t : MachineState) (b k : Buffer Executed) (seen : List Executed) →
+    t ≡ record m { processor = after_steps bus_rules n m.processor } → HasPassedTo passes n cycles m.processor t.processor seen →
     k ≡ buffer (keep_last b.capacity (b.items ++ seen)) b.capacity → HasPassed passes n (history_as m b) (history_as t k)
-watched_steps_kept passes n m t b k seen made passed kept = record {
+watched_steps_kept passes n cycles m t b k seen made passed kept = record {
   run = ap (λ (x : MachineState). history_as x k) made ∙ steps_kept n m b k seen passed.ran kept;
   past = passed.past;
 }

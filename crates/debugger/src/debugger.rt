@@ -1,6 +1,6 @@
 //! The machine with its history.
 
-ghost use Rattle.std.specs.Prelude.{◌≡◌, ◌<◌, ◌≤◌, IfErr, IfOk, true, OnErr, OnOk, [], length, slice_get};
+ghost use Rattle.std.specs.Prelude.{◌≡◌, ◌<◌, ◌≤◌, ◌*◌, IfErr, IfOk, true, OnErr, OnOk, [], length, slice_get};
 ghost use Rattle.std.specs.Io.KnownBytes.{Appends};
 ghost use Rattle.exact_text.specs.Written.{AppendsProperPrefix};
 
@@ -9,7 +9,7 @@ use crate::listing::write_lines;
 use crate::stop::Stop;
 use circular_buffer::HeapCircularBuffer;
 use exact_text::{Output, OutputFailed};
-use machine::{Executed, Machine, StepKind, Stepped, Watch};
+use machine::{Executed, Machine, Passed, StepKind, Stepped, Watch};
 use std::alloc::Global;
 use std::marker::Model;
 
@@ -70,6 +70,7 @@ impl Model for Debugger {
 
 impl Debugger {
     ghost use Rattle.memory_map.specs.BusRules.{bus_rules};
+    ghost use Rattle.machine.specs.Machine.{cycles_of_steps};
     ghost use Rattle.machine.specs.Sent.{sent_in_step};
     ghost use Rattle.machine.specs.Watched.{byte_list};
     ghost use Rattle.sm83_processor.specs.Steps.{step_of};
@@ -142,7 +143,7 @@ impl Debugger {
                 return Stop::Break(pc);
             }
             if self.machine.is_fast() {
-                made += self.run_watching(&mut room, &watch, limit - made);
+                made += self.run_watching(&mut room, &watch, limit - made).steps;
             } else {
                 let _ = self.step();
                 made += 1;
@@ -153,18 +154,21 @@ impl Debugger {
 
     /// Makes fast steps, at least one, until one that is not the first may not be fast, or a watch may end
     /// the run before it; at most `limit`, and no more than are put into the history at once. Returns how
-    /// many. Conditions: the next step is fast, as `Machine::is_fast` tells, and `limit` is not 0.
-    pub fn run_watching<W: Watch>(&mut self, room: &mut RunRoom, watch: &W, limit: u32) -> u32
+    /// many, and the M-cycles that they took. Conditions: the next step is fast, as `Machine::is_fast`
+    /// tells, and `limit` is not 0.
+    pub fn run_watching<W: Watch>(&mut self, room: &mut RunRoom, watch: &W, limit: u32) -> Passed
         requires some { 0 < limit }
         requires fast { IsFast bus_rules self.old.machine.processor }
-        ensures run { HasPassed (W.passes watch.now) result self.old self.new }
-        ensures some { 0 < result }
-        ensures most { result ≤ limit }
+        ensures run { HasPassed (W.passes watch.now) result.steps self.old self.new }
+        ensures cycles { result.cycles ≡ cycles_of_steps bus_rules result.steps self.old.machine.processor }
+        ensures some { 0 < result.steps }
+        ensures most { result.steps ≤ limit }
+        ensures few { result.cycles ≤ 6 * result.steps }
     {
-        let most = KEPT.min(limit as usize);
-        let made = self.machine.run_watching(&mut room.kept, most, watch);
-        self.history.extend_from_slice(&room.kept[..made]);
-        made as u32
+        let most = (KEPT as u32).min(limit);
+        let passed = self.machine.run_watching(&mut room.kept, most, watch);
+        self.history.extend_from_slice(&room.kept[..passed.steps as usize]);
+        passed
     }
 
     /// How many instructions the history holds: at most `size`.

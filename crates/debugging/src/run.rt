@@ -517,7 +517,7 @@ fn step_on<W: Watch>(debugger: &mut Debugger, room: &mut RunRoom, watch: &W, lim
     ensures most { result ≤ limit }
 {
     if debugger.machine().is_fast() {
-        return debugger.run_watching(room, watch, limit);
+        return debugger.run_watching(room, watch, limit).steps;
     }
     let _ = debugger.step();
     1

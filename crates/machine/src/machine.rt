@@ -1,6 +1,6 @@
 //! The whole machine.
 
-ghost use Rattle.std.specs.Prelude.{◌≡◌, ◌<◌, ◌≤◌, IfOk, length, take, All, slice_set, true};
+ghost use Rattle.std.specs.Prelude.{◌≡◌, ◌<◌, ◌≤◌, ◌*◌, IfOk, length, take, All, slice_set, true};
 ghost use Rattle.memory_map.specs.BusRules.{bus_rules};
 ghost use Rattle.sm83_processor.specs.Steps.{step_of, after_steps};
 ghost use Rattle.sm83_processor.specs.FastStep.{IsFast};
@@ -9,7 +9,7 @@ ghost use Rattle.machine.specs.FastRuns.{HasPassed};
 use crate::frame::run_frame;
 use crate::input::Input;
 use crate::machine_without_memory::MachineWithoutMemory;
-use crate::passing::run_watching;
+use crate::passing::{Passed, run_watching};
 use crate::steps::run_steps;
 use crate::watch::Watch;
 use cartridge::Cartridge;
@@ -135,19 +135,21 @@ impl Machine {
 
     /// Fast steps, faster than `step`, up to one before which a watch may end them: puts the instructions
     /// that ran into `kept`, from its beginning. Makes one step, and then more until `most` were made, or
-    /// the next one may not be fast, or the watch does not let it pass. Returns how many were made.
-    /// Conditions: the next step is fast, as `is_fast` tells; `most` is not 0, and `kept` has as many
-    /// places.
-    pub fn run_watching<W: Watch>(&mut self, kept: &mut [Executed], most: usize, watch: &W) -> usize
+    /// the next one may not be fast, or the watch does not let it pass. Returns how many were made, and
+    /// the M-cycles that they took. Conditions: the next step is fast, as `is_fast` tells; `most` is not
+    /// 0, and `kept` has as many places.
+    pub fn run_watching<W: Watch>(&mut self, kept: &mut [Executed], most: u32, watch: &W) -> Passed
         requires some { 0 < most }
         requires room { most ≤ length kept.old }
         requires fast { IsFast bus_rules self.old.processor }
-        ensures machine { self.new ≡ record self.old { processor = after_steps bus_rules result self.old.processor } }
-        ensures run { HasPassed (W.passes watch.now) result self.old.processor self.new.processor
-            (take result kept.new) }
+        ensures machine { self.new ≡ record self.old
+            { processor = after_steps bus_rules result.steps self.old.processor } }
+        ensures run { HasPassed (W.passes watch.now) result.steps result.cycles self.old.processor
+            self.new.processor (take result.steps kept.new) }
         ensures room { length kept.new ≡ length kept.old }
-        ensures some { 0 < result }
-        ensures most { result ≤ most }
+        ensures some { 0 < result.steps }
+        ensures most { result.steps ≤ most }
+        ensures few { result.cycles ≤ 6 * result.steps }
     {
         run_watching(&mut self.processor, kept, most, watch)
     }

@@ -1,6 +1,6 @@
 //! Fast steps of the processor over the bus, each reported, up to one before which a watch may end them.
 
-ghost use Rattle.std.specs.Prelude.{◌≡◌, ◌<◌, ◌≤◌, true, length, take};
+ghost use Rattle.std.specs.Prelude.{◌≡◌, ◌<◌, ◌≤◌, ◌+◌, ◌*◌, ◌^◌, ℕ, true, length, take};
 ghost use Rattle.memory_map.specs.State.{BusState};
 ghost use Rattle.memory_map.specs.Bus.{read_at};
 ghost use Rattle.memory_map.specs.BusRules.{bus_rules};
@@ -17,41 +17,63 @@ use crate::watch::Watch;
 use memory_map::Bus;
 use sm83_processor::{Executed, Processor, StepKind, length_of_opcode};
 
+/// Steps that a watch let pass.
+#[derive(Clone, Copy)]
+pub struct Passed {
+    /// How many they are.
+    pub steps: u32,
+    /// The M-cycles that they took.
+    pub cycles: u64,
+}
+
+/// How far a loop of such steps went.
+#[derive(Clone, Copy)]
+struct Went {
+    /// How many steps were made then, with those before the loop.
+    made: usize,
+    /// The M-cycles of the loop's own steps.
+    cycles: u64,
+    /// Whether the next step is known to be fast.
+    is_fast: bool,
+}
+
 /// Makes fast steps, one at least, and puts their instructions into `kept`: until `most` were made, or
-/// the next one may not be fast or the watch may end before it. Returns how many were made.
+/// the next one may not be fast or the watch may end before it. Returns how many were made, and their
+/// M-cycles.
 pub(crate) fn run_watching<W: Watch>(
     processor: &mut Processor<Bus>,
     kept: &mut [Executed],
-    most: usize,
+    most: u32,
     watch: &W,
-) -> usize
+) -> Passed
     requires some { 0 < most }
     requires room { most ≤ length kept.old }
     requires fast { IsFast bus_rules processor.old }
-    ensures run { HasPassed (W.passes watch.now) result processor.old processor.new (take result kept.new) }
+    ensures run { HasPassed (W.passes watch.now) result.steps result.cycles processor.old processor.new
+        (take result.steps kept.new) }
     ensures room { length kept.new ≡ length kept.old }
-    ensures some { 0 < result }
-    ensures most { result ≤ most }
+    ensures some { 0 < result.steps }
+    ensures most { result.steps ≤ most }
+    ensures few { result.cycles ≤ 6 * result.steps }
 {
+    let most = most as usize;
     let mut made = 0;
+    let mut cycles = 0;
     loop {
-        let (now, is_fast) = run_watching_here(processor, kept, made, most, watch);
-        made = now;
-        if !is_fast {
-            return made;
-        }
-        if made >= most {
-            return made;
-        }
-        if watch.may_end(processor) {
-            return made;
+        let went = run_watching_here(processor, kept, made, most, watch);
+        made = went.made;
+        cycles += went.cycles;
+        if !went.is_fast || made >= most || watch.may_end(processor) {
+            return Passed {
+                steps: made as u32,
+                cycles,
+            };
         }
     }
 }
 
 /// Goes on with such steps, of which some were made, while PC stays in the lower half of ROM, in the
-/// upper half, or above ROM. Returns how many were made then, and whether the next one is known to be
-/// fast.
+/// upper half, or above ROM.
 #[inline(always)]
 fn run_watching_here<W: Watch>(
     processor: &mut Processor<Bus>,
@@ -59,16 +81,20 @@ fn run_watching_here<W: Watch>(
     made: usize,
     most: usize,
     watch: &W,
-) -> (usize, bool)
+) -> Went
     requires due { made < most }
+    requires most { most < 2 ^ 32 }
     requires room { most ≤ length kept.old }
     requires fast { IsFast bus_rules processor.old }
-    ensures run { (begun : Processor BusState) → IsPassing (W.passes watch.now) made begun processor.old kept.old →
-        HasPassed (W.passes watch.now) result.0 begun processor.new (take result.0 kept.new) }
+    ensures run { (begun : Processor BusState) → (before : ℕ)
+        → IsPassing (W.passes watch.now) made before begun processor.old kept.old
+        → HasPassed (W.passes watch.now) result.made (before + result.cycles) begun processor.new
+        (take result.made kept.new) }
     ensures room { length kept.new ≡ length kept.old }
-    ensures more { made < result.0 }
-    ensures most { result.0 ≤ most }
-    ensures fast { result.1 ≡ true → IsFast bus_rules processor.new }
+    ensures more { made < result.made }
+    ensures most { result.made ≤ most }
+    ensures few { result.cycles + 6 * made ≤ 6 * result.made }
+    ensures fast { result.is_fast ≡ true → IsFast bus_rules processor.new }
 {
     if is_there::<IN_LOWER_ROM>(processor.registers.pc) {
         run_watching_by::<W, IN_LOWER_ROM>(processor, kept, made, most, watch)
@@ -87,38 +113,65 @@ fn run_watching_by<W: Watch, const LOOP: u8>(
     made: usize,
     most: usize,
     watch: &W,
-) -> (usize, bool)
+) -> Went
     requires due { made < most }
+    requires most { most < 2 ^ 32 }
     requires room { most ≤ length kept.old }
     requires fast { IsFast bus_rules processor.old }
-    ensures run { (begun : Processor BusState) → IsPassing (W.passes watch.now) made begun processor.old kept.old →
-        HasPassed (W.passes watch.now) result.0 begun processor.new (take result.0 kept.new) }
+    ensures run { (begun : Processor BusState) → (before : ℕ)
+        → IsPassing (W.passes watch.now) made before begun processor.old kept.old
+        → HasPassed (W.passes watch.now) result.made (before + result.cycles) begun processor.new
+        (take result.made kept.new) }
     ensures room { length kept.new ≡ length kept.old }
-    ensures more { made < result.0 }
-    ensures most { result.0 ≤ most }
-    ensures fast { result.1 ≡ true → IsFast bus_rules processor.new }
+    ensures more { made < result.made }
+    ensures most { result.made ≤ most }
+    ensures few { result.cycles + 6 * made ≤ 6 * result.made }
+    ensures fast { result.is_fast ≡ true → IsFast bus_rules processor.new }
 {
     if !is_there::<LOOP>(processor.registers.pc) {
-        if let StepKind::Ran(seen) = processor.step().kind {
+        let stepped = processor.step();
+        if let StepKind::Ran(seen) = stepped.kind {
             kept[made] = seen;
         }
-        return (made + 1, false);
+        return Went {
+            made: made + 1,
+            cycles: u64::from(stepped.cycles),
+            is_fast: false,
+        };
     }
     let mut made = made;
+    let mut cycles = 0;
     loop {
-        let (now, is_fast) = run_calm_watching::<W, LOOP>(processor, kept, made, most, watch);
-        made = now;
-        if !is_fast {
-            return (made, false);
+        let went = run_calm_watching::<W, LOOP>(processor, kept, made, most, watch);
+        made = went.made;
+        cycles += went.cycles;
+        if !went.is_fast {
+            return Went {
+                made,
+                cycles,
+                is_fast: false,
+            };
         }
         if made >= most {
-            return (made, true);
+            return Went {
+                made,
+                cycles,
+                is_fast: true,
+            };
         }
         if !is_there::<LOOP>(processor.registers.pc) {
-            return (made, true);
+            return Went {
+                made,
+                cycles,
+                is_fast: true,
+            };
         }
         if watch.may_end(processor) {
-            return (made, true);
+            return Went {
+                made,
+                cycles,
+                is_fast: true,
+            };
         }
     }
 }
@@ -133,16 +186,20 @@ fn run_calm_watching<W: Watch, const LOOP: u8>(
     made: usize,
     most: usize,
     watch: &W,
-) -> (usize, bool)
+) -> Went
     requires due { made < most }
+    requires most { most < 2 ^ 32 }
     requires room { most ≤ length kept.old }
     requires fast { IsFast bus_rules processor.old }
-    ensures run { (begun : Processor BusState) → IsPassing (W.passes watch.now) made begun processor.old kept.old →
-        HasPassed (W.passes watch.now) result.0 begun processor.new (take result.0 kept.new) }
+    ensures run { (begun : Processor BusState) → (before : ℕ)
+        → IsPassing (W.passes watch.now) made before begun processor.old kept.old
+        → HasPassed (W.passes watch.now) result.made (before + result.cycles) begun processor.new
+        (take result.made kept.new) }
     ensures room { length kept.new ≡ length kept.old }
-    ensures more { made < result.0 }
-    ensures most { result.0 ≤ most }
-    ensures fast { result.1 ≡ true → IsFast bus_rules processor.new }
+    ensures more { made < result.made }
+    ensures most { result.made ≤ most }
+    ensures few { result.cycles + 6 * made ≤ 6 * result.made }
+    ensures fast { result.is_fast ≡ true → IsFast bus_rules processor.new }
 {
     let end = calm_within(&processor.memory, most - made);
     let mut left = end;
@@ -150,22 +207,34 @@ fn run_calm_watching<W: Watch, const LOOP: u8>(
     loop {
         let opcode = report(processor, &mut kept[made]);
         let AfterStep {
-            now: _,
+            now,
             left: fewer,
             is_fast,
             is_calm,
         } = run_fast_step::<W, LOOP>(processor, opcode, false, left, end);
         made += 1;
         if !is_calm {
-            return (made, is_fast);
+            return Went {
+                made,
+                cycles: u64::from(now),
+                is_fast,
+            };
         }
         left = fewer;
         if !is_there::<LOOP>(processor.registers.pc) {
-            return (made, true);
+            return Went {
+                made,
+                cycles: u64::from(end - left),
+                is_fast: true,
+            };
         }
         let may_end = watch.may_end(processor);
         if may_end {
-            return (made, true);
+            return Went {
+                made,
+                cycles: u64::from(end - left),
+                is_fast: true,
+            };
         }
     }
 }

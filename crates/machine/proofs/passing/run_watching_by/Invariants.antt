@@ -1,4 +1,4 @@
-use Rattle.std.proofs.Common.{◌≡◌, ◌<◌, ◌≤◌, ◌-◌, length}
+use Rattle.std.proofs.Common.{◌≡◌, ◌<◌, ◌≤◌, ◌-◌, ◌+◌, ◌*◌, ℕ, length}
 use Rattle.memory_map.specs.State.{BusState}
 use Rattle.memory_map.specs.BusRules.{bus_rules}
 use Rattle.sm83_processor.specs.FastStep.{IsFast}
@@ -8,10 +8,12 @@ use Rattle.machine.proofs.passing.run_watching_by.Given as goal
 
 abbrev pub invariant-loop-made : goal.invariant-loop-made
 invariant-loop-made g l = record {
-  run : (begun : Processor BusState) → IsPassing (g.W.Watch.passes l.watch) l.fn.made begun l.fn.processor l.fn.kept → IsPassing (g.W.Watch.passes l.watch) l.made begun l.processor l.kept;
+  run : (begun : Processor BusState) → (before : ℕ) → IsPassing (g.W.Watch.passes l.watch) l.fn.made before begun l.fn.processor l.fn.kept
+      → IsPassing (g.W.Watch.passes l.watch) l.made (before + l.cycles) begun l.processor l.kept;
   room : length l.kept ≡ length l.fn.kept;
   start : l.fn.made ≤ l.made;
   due : l.made < l.most;
+  few : l.cycles + 6 * l.fn.made ≤ 6 * l.made;
   fast : IsFast bus_rules l.processor;
 }
 

@@ -25,7 +25,7 @@ loop-made-preserved-then-is_fast c =
                 let here = w.has.ensures.1 (subst (λ (x : ℕ). Contains c.of-watch.result x) (sym pc) (subst (λ (breaks : List ℕ). Contains breaks old.machine.processor.registers.pc) (sym c.of-watch.ensures) met)) in cc
             | else-made-gt0-via-else-made-gt0 w ↦ λ some met. omega arith
           ])
-          (subst (λ (breaks : List ℕ). HasPassed (IsElsewhere breaks) c.run_watching-made.result old c.run_watching-made.new.self) c.of-watch.ensures c.run_watching-made.ensures.run);
+          (subst (λ (breaks : List ℕ). HasPassed (IsElsewhere breaks) c.run_watching-made.result.steps old c.run_watching-made.new.self) c.of-watch.ensures c.run_watching-made.ensures.run);
       most = omega (arith, c.run_watching-made.ensures.most, c.loop-made-test.true);
     }
 
