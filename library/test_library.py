@@ -28,7 +28,6 @@ TOP = HERE.parent
 from gbkeep import AnyGame, AnyMachine, DebugMachine, Game, Machine, NoState, Picture, Refused, Session, header_of, save_files, sectors_needed
 from gbkeep.library import BEFORE, BEHIND, ELSEWHERE, FAR_BEFORE, FAR_BEHIND, HERE, NO_TIME, NOTHING, OLDER, Clock, clock_lines, find_library, look_at_clock
 from scripts.doctor import tries
-from scripts.not_tried import note
 
 PROGRAM, LIBRARY = 'bin/gbkeep', TOP / 'bin'
 DEMO = TOP / 'examples/demo/demo.gb'
@@ -250,9 +249,8 @@ class Linked(InFolder):
         self.plays(f'-I{LIBRARY}', f'-L{LIBRARY}', '-lgbkeep', f'-Wl,-rpath,{LIBRARY}')
 
     def test_by_its_settings(self):
-        if shutil.which('pkg-config') is None:
-            note('a program by gbkeep.pc', 'pkg-config is missing')
-            self.skipTest('pkg-config is missing')
+        if not tries('a program by gbkeep.pc', 'pkg-config'):
+            self.skipTest('there is no pkg-config')
         said = run('pkg-config', '--cflags', '--libs', 'gbkeep', env=dict(os.environ, PKG_CONFIG_PATH=str(LIBRARY)))
         self.assertEqual((said.returncode, said.stderr), (0, b''))
         self.plays(*shlex.split(said.stdout.decode()), f'-Wl,-rpath,{LIBRARY}')

@@ -9,18 +9,17 @@ import shutil
 import subprocess
 import sys
 import time
-import unittest
 from dataclasses import replace
 from pathlib import Path
 
 import installed
 from gbkeep_tests import support
-from gbkeep_tests.support import TOP, expect, needs_terminal
+from gbkeep_tests.support import TOP, expect, needs
+from scripts.doctor import BASH_COMPLETION, is_there
 
 FILES = {'A Game.gb', 'game.gbkeep', 'A folder/'}
 FOLDERS = {'A folder/'}
 NOTHING: set = set()
-BASH_COMPLETION = Path('/usr/share/bash-completion/bash_completion')
 WORDS_FILE = (TOP / 'crates/command_line/src/words.rt').read_text(encoding='utf-8')
 COMMANDS = set(re.findall(r'^        name: "([\w-]+)",$', WORDS_FILE, re.M))
 TOOLS = re.findall(r'^(gbkeep-[a-z-]+) = ', (TOP / 'python/pyproject.toml').read_text(), re.M)
@@ -77,12 +76,6 @@ TYPED = [
     ('gbkeep-debug x.gb ', FILES),
     ('gbkeep-dap --p', {'--program'}),
 ]
-
-
-def needs(shell: str) -> None:
-    needs_terminal(f'completions of {shell}')
-    if not shutil.which(shell):
-        raise unittest.SkipTest(f'completions of {shell}: {shell} is missing')
 
 
 def room(folder: Path) -> None:
@@ -154,7 +147,7 @@ def test_all_tools(folder: Path) -> None:
 
 
 def test_bash(folder: Path) -> None:
-    needs('bash')
+    needs('completions of bash', 'a terminal', 'bash')
     room(folder)
     for line, wanted in TYPED:
         words = line.split(' ')
@@ -179,7 +172,7 @@ COMP_WORDS=({' '.join(f"'{word}'" for word in words)}) COMP_CWORD={len(words) - 
 
 
 def test_fish(folder: Path) -> None:
-    needs('fish')
+    needs('completions of fish', 'a terminal', 'fish')
     room(folder)
     (folder / 'gbkeep.fish').write_text((TOP / 'completions/gbkeep.fish').read_text())
     # a second time, as under the name of another tool
@@ -199,7 +192,7 @@ def test_fish(folder: Path) -> None:
 
 
 def test_zsh(folder: Path) -> None:
-    needs('zsh')
+    needs('completions of zsh', 'a terminal', 'zsh')
     files = folder / 'files'
     files.mkdir()
     room(files)
@@ -247,19 +240,16 @@ def test_places(folder: Path) -> None:
         elif file.path.startswith('bin/'):
             installed.put(installed.File('', file.path, b'#!/bin/sh\n', True), folder)
     env = {'PATH': f'{folder}/bin:{os.environ["PATH"]}', 'XDG_DATA_DIRS': f'{folder}/share:/usr/share', 'HOME': str(folder), 'LC_ALL': 'C.UTF-8'}
-    left_out = []
+    shells = {'fish': 'fish', 'zsh': 'zsh', 'bash': 'bash-completion'}
     for tool, typed, wanted in (('gbkeep', 'verif', 'verify'), ('gbkeep-window', '--sc', '--scale'), ('gbkeep-run-tests', '--sl', '--slowest')):
         looks = f'fpath=({folder}/share/zsh/site-functions $fpath); autoload -Uz compinit; compinit -u -D; [[ $_comps[{tool}] == _gbkeep ]]'
         loads = f'source {BASH_COMPLETION}; _completion_loader {tool}; COMP_WORDS=({tool} {typed}) COMP_CWORD=1; _gbkeep; echo ${{COMPREPLY[@]}}'
         for shell, script in (('fish', f"complete -C '{tool} {typed}' | string replace -r '\\t.*' ''"), ('zsh', f'{looks} && echo {wanted}'), ('bash', loads)):
-            missing = shell if not shutil.which(shell) else 'bash-completion' if shell == 'bash' and not BASH_COMPLETION.exists() else ''
-            if missing:
-                left_out.append(f'{missing} is missing')
+            if not is_there(shells[shell]):
                 continue
             got = subprocess.run([shell, '-c', script], cwd=folder, env=env, capture_output=True, text=True, timeout=120)
             expect(f'{shell}: {tool} {typed}', (got.stdout, got.stderr), (f'{wanted}\n', ''))
-    if left_out:
-        raise unittest.SkipTest(f'where completions are installed: {", ".join(dict.fromkeys(left_out))}')
+    needs('where completions are installed', 'fish', 'zsh', 'bash-completion')
 
 
 if __name__ == '__main__':

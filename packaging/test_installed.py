@@ -21,8 +21,9 @@ from unittest import mock
 
 import installed
 from gbkeep_tests import support
-from gbkeep_tests.support import TOP, expect
+from gbkeep_tests.support import TOP, expect, needs
 from scripts import library
+from scripts.doctor import is_there, told
 
 COMPILER = os.environ.get('CC', 'cc')
 CLONED = ('README.md', 'Makefile', 'crates.txt', 'completions', 'docs', 'editors', 'examples', 'library', 'packaging', 'players', 'python', 'scripts',
@@ -46,11 +47,6 @@ def done(words: Iterable[object], cwd: Optional[Path] = None, **more: str) -> st
     status, out, err = ran(words, cwd, **more)
     expect(f'{" ".join(map(str, words))[:200]}: {out[-1000:]}{err[-2000:]}', status, 0)
     return out
-
-
-def needs(tool: str, what: str) -> None:
-    if not shutil.which(tool):
-        raise unittest.SkipTest(f'{what}: {tool} is missing')
 
 
 def cloned(folder: Path, is_compiled: bool = False) -> Path:
@@ -229,8 +225,7 @@ def test_arm64(folder: Path) -> None:
 
 def test_settings(folder: Path) -> None:
     """A program in C is built by what pkg-config says, and starts: from bin, and from where it is installed."""
-    needs(COMPILER, 'the settings of pkg-config')
-    needs('pkg-config', 'the settings of pkg-config')
+    needs('the settings of pkg-config', 'cc', 'pkg-config')
     clone = cloned(folder / 'a room', is_compiled=True)
     expect('bin', os.readlink(clone / 'bin/libgbkeep.so.0'), 'libgbkeep.so')
     prefix, elsewhere, moved = folder / 'a prefix', folder / 'else where', folder / 'moved'
@@ -335,7 +330,7 @@ def test_which_python(folder: Path) -> None:
     expect('without streams', pythons.names()[-1], 'has')
     # the window, which looks for its program next
     if ran(['/usr/bin/python3', '-c', "import gi; gi.require_version('Adw', '1')"])[0] != 0:
-        raise unittest.SkipTest('the window by the system\'s Python: gir1.2-adw-1 is missing')
+        raise unittest.SkipTest(f"the window by the system's Python: {told('GTK')}")
     status, out, err = pythons.started('gbkeep-window', [lacks], 'none.gb', GBKEEP='/nowhere/gbkeep')
     expect('the window is started', (status, out, err.startswith("/nowhere/gbkeep can't be run"), err.count('\n')), (1, '', True, 1))
 
@@ -392,9 +387,10 @@ def test_desktop(folder: Path) -> None:
         word = re.sub(r'\\(.)', r'\1', word[1:-1]) if word.startswith('"') else word
         expect(f'{prefix}: the path', word.replace('%%', '%'), f'{prefix}/bin/gbkeep-window')
         (folder / 'gbkeep.desktop').write_text(entry)
-        if shutil.which('desktop-file-validate'):
+        if is_there('desktop-file-validate'):
             expect('it is valid', ran(['desktop-file-validate', folder / 'gbkeep.desktop'])[:2], (0, ''))
     expect('in a package', '\nExec=gbkeep-window %f\n' in installed.desktop_entry(''), True)
+    needs('whether the entry of the desktop is valid', 'desktop-file-validate')
 
 
 # ---- packages
@@ -421,8 +417,7 @@ def packed(package: Path) -> dict[str, object]:
 
 def dist(folder: Path) -> Path:
     """What `make dist` leaves of stand-ins, in a repository of its own."""
-    for tool in (COMPILER, 'dpkg-deb', 'git', 'strip'):
-        needs(tool, 'packages')
+    needs('packages', 'cc', 'dpkg-deb', 'git', 'strip')
     clone = cloned(folder, is_compiled=True)
     (clone / '.gitignore').write_text('/bin/\n/dist/\n__pycache__/\n')
     git = ['git', '-c', 'user.name=Somebody', '-c', 'user.email=somebody@example.org', '-c', 'commit.gpgsign=false']
@@ -482,9 +477,9 @@ def test_packages(folder: Path) -> None:
     top = folder / f'un packed/gbkeep-{version}'
     expect('its pages', {str(path.relative_to(top / place)) for path in (top / place).rglob('*') if path.is_file()}, there - {'copyright', 'changelog.gz'})
     done([top / 'bin/gbkeep-script', '--help'], PYTHONDONTWRITEBYTECODE='1')
-    if shutil.which('pkg-config'):
-        flags = shlex.split(done(['pkg-config', '--cflags', '--libs', 'gbkeep'], PKG_CONFIG_PATH=str(top / 'lib/pkgconfig')))
-        done([COMPILER, '-o', folder / 'play', top / place / 'examples/library/play.c', *flags, f'-Wl,-rpath,{top}/lib'])
+    needs('a program in C by the tarball', 'pkg-config')
+    flags = shlex.split(done(['pkg-config', '--cflags', '--libs', 'gbkeep'], PKG_CONFIG_PATH=str(top / 'lib/pkgconfig')))
+    done([COMPILER, '-o', folder / 'play', top / place / 'examples/library/play.c', *flags, f'-Wl,-rpath,{top}/lib'])
 
 
 def links_of(text: str) -> list[str]:

@@ -21,6 +21,9 @@ PYTHON = (3, 10)
 TOP = Path(os.path.abspath(__file__)).parent.parent
 # where programs of the system's are that a user does not have on his search path
 ALSO = '/usr/sbin:/sbin'
+BASH_COMPLETION = '/usr/share/bash-completion/bash_completion'
+# another one makes other bytes of the same C
+SDCC = '4.2.0'
 
 
 # ---- how it is looked for
@@ -92,6 +95,11 @@ def has_terminals():
         return False
 
 
+def has_sdcc():
+    """Whether the sdcc is there by which a ROM was made that is kept with its source."""
+    return found('sdcc') and f' {SDCC} ' in subprocess.run(['sdcc', '--version'], capture_output=True, text=True).stdout
+
+
 def cross_libc():
     return 'CC_ARM64' in os.environ or any(map(os.path.exists, ('/usr/aarch64-linux-gnu/include/errno.h', '/usr/include/aarch64-linux-gnu/errno.h')))
 
@@ -130,8 +138,14 @@ NEEDS = {
     'node': command('nodejs', 'node'),
     'tsc': command('node-typescript', 'tsc'),
     'eslint': command('eslint', 'eslint'),
+    'sdcc': Need('sdcc', has_sdcc, other_way=f'or is not {SDCC}'),
+    'pkg-config': command('pkg-config', 'pkg-config'),
     'bash': command('bash', 'bash'),
+    'bash-completion': Need('bash-completion', lambda: os.path.exists(BASH_COMPLETION)),
+    'fish': command('fish', 'fish'),
+    'zsh': command('zsh', 'zsh'),
     'pyflakes3': command('pyflakes3', 'pyflakes3'),
+    'mypy': command('mypy', 'mypy'),
     'a terminal': Need('', has_terminals, 'no process gets one of its own here: /dev/pts has to be mounted'),
     'strace': Need('strace', lambda: found('strace') and is_done('strace', '-o', '/dev/null', 'true'), other_way='or it may follow no process'),
     'unshare': Need('util-linux', lambda: found('unshare') and is_done('unshare', '--mount', 'true'), other_way='or it is refused here'),
@@ -226,12 +240,23 @@ FREE = ('help', 'doctor', 'clean', 'clean-cache')
 LEFT_OUT = {
     'test': {
         'pyflakes3': 'no Python is looked at',
+        'mypy': 'the types of the window are not looked at',
+        'sdcc': 'the ROM in C of examples/speed is not made anew',
+        'pkg-config': 'no program in C is made by the settings of the library',
+        'bash-completion': 'what completes words for bash is not looked for where it is installed',
+        'fish': 'nothing is typed in fish',
+        'zsh': 'nothing is typed in zsh',
+        'GTK': "the window is not started by the system's Python",
+        'desktop-file-validate': "the window's entry of the desktop is looked at by no other program",
+        'dpkg-deb': 'no package is made',
+        'strip': 'no package is made',
         'a terminal': 'nothing is typed at a shell or a prompt',
-        'git': 'no commit is told as the one that has passed',
+        'git': 'no commit is told as the one that has passed, and no package is made',
         'node': 'no part of the page is run, and its module is not compared with one of 64 bits',
         'tsc': 'the types of the scripts of the page are not looked at',
         'strace': 'no system call is followed, or made to fail',
-        'cc': "the library for C, the core and the window's files are not tried, no allocation is refused, no write is cut short, no call of a tool fails",
+        'cc': "the library for C, the core and the window's files are not tried, no allocation is refused, no write is cut short, no call of a tool fails, "
+              'no package is made',
         'ar': "the library for C, the core and the window's files are not tried, no call of a tool fails",
         'libretro.h': 'the core is not tried',
         'sanitizers': 'the core is given no garbage',

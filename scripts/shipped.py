@@ -30,6 +30,7 @@ from collections import Counter
 from pathlib import Path
 
 from examples.speed import build
+from scripts.doctor import compiler, missing, needed, tries
 from scripts.not_tried import note
 
 ROOT = Path(__file__).resolve().parent.parent
@@ -138,13 +139,12 @@ def ships(words, room):
     """What plays, by its name in the table, and what could not be tried."""
     program = words[0]
     found, lacking = {'program': Program(program, room)}, []
-    compiler = os.environ.get('CC', 'cc')
     if len(words) < 3:
         return found, ['the speed of library and core: they were not built']
-    if not shutil.which(compiler):
-        return found, ['the speed of library and core: there is no C compiler']
+    if lines := missing('cc'):
+        return found, [f'the speed of library and core: {lines[0]}']
     player = room / 'player'
-    run([compiler, '-std=gnu11', '-O2', '-Wall', '-Wextra', '-o', player, PLAYER, '-ldl'])
+    run([*compiler(), '-std=gnu11', '-O2', '-Wall', '-Wextra', '-o', player, PLAYER, '-ldl'])
     for name, path in (('library', Path(words[1], 'libgbkeep.so')), ('core', Path(words[2]))):
         if path.exists():
             found[name] = Shared(player, path, room)
@@ -269,8 +269,7 @@ def shown(row):
 
 
 def count(words, is_kept):
-    if not shutil.which('valgrind'):
-        sys.exit('shipped.py: valgrind is missing: install valgrind')
+    needed('valgrind')
     print(f'{"":101} ' + ' '.join(f'{one:>11}' for one in HEAD[3:]))
     with tempfile.TemporaryDirectory(prefix='speed-') as folder:
         room = Path(folder)
@@ -291,7 +290,7 @@ def gate(words):
     wrong, lacking = [], []
     with tempfile.TemporaryDirectory(prefix='speed-') as folder:
         room = Path(folder)
-        if shutil.which('valgrind'):
+        if tries('the speed of what ships', 'valgrind'):
             with open(TABLE, newline='') as file:
                 known = {row['name']: row for row in csv.DictReader(file)}
             found, lacking = ships(words, room)
@@ -302,14 +301,10 @@ def gate(words):
                 for by, one in counts.items():
                     if one > MOST * int(known[name][by]):
                         wrong.append(f'{name} by the {by} costs {one:,} instructions, and {int(known[name][by]):,} in {TABLE.name}')
-        else:
-            lacking.append('the speed of what ships: there is no valgrind')
-        if shutil.which('objdump'):
+        if tries('the loops of what ships', 'objdump'):
             wrong += wrong_loops(words[0], LOOPS['program'])
             if len(words) > 1 and Path(words[1], 'libgbkeep.a').exists():
                 wrong += wrong_loops(Path(words[1], 'libgbkeep.a'), LOOPS['library'])
-        else:
-            lacking.append('the loops of what ships: there is no objdump (binutils)')
     for line in lacking:
         note(*line.split(': ', 1))
     if wrong:

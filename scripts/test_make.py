@@ -62,6 +62,10 @@ MEASURED = {1: 87, 2: 47, 4: 48}
 ON_ANOTHER_HOST = {'sm83_processor': 500, 'debugging': 500, 'gbkeep': 450, 'session': 250, 'command_line': 134, 'streaming': 210, 'replaying': 180,
                    'recorded_play': 170, 'opcode_table': 160, 'test_run': 150}
 GAME = b'GBKPROOT' + bytes(1016)
+# what leaves something out by itself, and needs no program; and of the gate's tests, which
+LEAVE_OUT = {'examples/speed/build.py': 'check', 'scripts/shipped.py': 'gate program', 'packaging/test_completions.py': 'fish zsh places',
+             'packaging/test_installed.py': 'settings which_python desktop packages', 'python/gbkeep_tests/test_desktop_model.py': 'types',
+             'python/gbkeep_tests/test_package.py': 'bytes', 'python/gbkeep_tests/test_pictures.py': 'by_pil'}
 
 
 class Room:
@@ -270,6 +274,25 @@ esac
         expect(line, f'not tried: {line}' in told, True)
     expect('they are the last lines', out.splitlines()[-len(set(told)):], list(dict.fromkeys(told)))
     expect('the older note', 'older' in out, False)
+
+
+def test_left_out(folder):
+    """What a test leaves out by itself is told by the table: which thing is missing, its package, and, in `make doctor`, what that costs."""
+    room, costs, told = Room(folder), doctor.LEFT_OUT['test'], []
+    env = {**room.env, 'PYTHONPATH': f'{TOP}/python:{TOP}', 'PIL_PYTHON': 'python3', 'NUMPY_PYTHON': 'python3'}
+
+    def bare(*words):
+        return subprocess.run([sys.executable, '-S', '-B', *words], cwd=TOP, env=env, capture_output=True, text=True, timeout=120)
+    missing = bare('-c', 'from scripts import doctor\nfor need in doctor.LEFT_OUT["test"]: print(*doctor.missing(need))').stdout.splitlines()
+    for script, words in LEAVE_OUT.items():
+        done = bare(script, *words.split())
+        expect(f'{script}: status, errors', (done.returncode, done.stderr), (0, ''))
+        told += [why for line in re.findall(r'^not tried: .*?: (.*)$', done.stdout, re.M) for why in line.split('; ')]
+    expect('what they leave out', (len(told) > 5, [why for why in told if why not in missing]), (True, []))
+    # no row is there for nothing
+    sources = [path.read_text() for name in ('examples', 'library', 'packaging', 'players', 'python', 'scripts', 'web') for path in (TOP / name).rglob('*.py')]
+    calls = ' '.join(re.findall(r'\b(?:tries|needs|told|missing)\((.*)\)', '\n'.join(sources)) + re.findall(r' --try (.*); then', (TOP / 'Makefile').read_text()))
+    expect('what nothing leaves out', [need for need in costs if need not in calls], [])
 
 
 def test_shown(folder):

@@ -5,7 +5,6 @@ usage: build.py FOLDER     writes each as FOLDER/NAME.gb, of 32 KiB, and prints 
        build.py check      the status is 1 where one is not as made
 
 `ROMS` has the program of each, for the assembler of the demo. Those of `GAMES` lie here, beside their sources: an .asm for the assembler, or C."""
-import shutil
 import subprocess
 import sys
 import tempfile
@@ -14,8 +13,6 @@ from pathlib import Path
 from examples.demo.assemble import Assembler
 
 HERE = Path(__file__).resolve().parent
-# another one makes other bytes of the same C
-SDCC = '4.2.0'
 
 NAMES = '''
 joypad equ $ff00
@@ -434,15 +431,11 @@ def compiled():
         return bytes(rom)
 
 
-def has_sdcc():
-    """Whether the sdcc that compiled.gb was made by is installed."""
-    return bool(shutil.which('sdcc')) and f' {SDCC} ' in subprocess.run(['sdcc', '--version'], capture_output=True, text=True).stdout
-
-
 def made(name):
     """What the sources of a game make, or None where there is no sdcc for it."""
+    from scripts.doctor import tries
     if name == 'compiled':
-        return compiled() if has_sdcc() else None
+        return compiled() if tries(f'{name}.gb, made anew', 'sdcc') else None
     return bytes(Assembler().assemble((HERE / f'{name}.asm').read_text()))
 
 
@@ -451,9 +444,7 @@ def make(is_check):
     status = 0
     for name in GAMES:
         rom, path = made(name), HERE / f'{name}.gb'
-        if rom is None:
-            print(f'{path.name}: there is no sdcc {SDCC} to make it anew')
-        elif not path.exists() or path.read_bytes() != rom:
+        if rom is not None and (not path.exists() or path.read_bytes() != rom):
             print(f'{path.name}: ' + ('not as its source makes it' if is_check else 'made anew'))
             status = 1
             if not is_check:

@@ -30,7 +30,7 @@ from gbkeep.game import run
 from gbkeep.palettes import NAMES, PALETTES
 from gbkeep.save_files import root_of
 from gbkeep_tests.support import CART, CLOCK, DAY, expect, seconds_shown
-from scripts.not_tried import note
+from scripts.doctor import tries
 
 WIDTH, HEIGHT = 160, 144
 # a pixel of each shade, by the name of a palette
@@ -1095,8 +1095,8 @@ def test_files_of_others(program, core, room):
     # as backups are made, whose second name keeps what it has
     os.link(game.time, far / 'backup')
     expect('one\'s own, with a second name', (game.play(65), (far / 'backup').read_bytes() == held, game.time.read_bytes() == held), ([], True, False))
-    if os.geteuid() != 0:
-        return note('the libretro core, files of other users', 'only root can give them')
+    if not tries('the libretro core, files of other users', 'root'):
+        return
     os.chown(game.time, USER, USER)
     held = game.time.read_bytes()
     expect('somebody else\'s', (game.play(65), game.time.read_bytes() == held), ([STILL], True))
@@ -1107,8 +1107,8 @@ def test_files_of_others(program, core, room):
 
 def test_owner(program, core, room):
     """Root plays a game of a user's: SAVE.time stays the user's, whose clock goes on."""
-    if os.geteuid() != 0:
-        return note('the libretro core, played by root', 'this is another user')
+    if not tries('the libretro core, played by root', 'root'):
+        return
     room.chmod(0o755)
     for is_there in (True, False):
         game = Clocked(program, core, room, f'owned{is_there}')

@@ -173,16 +173,10 @@ def needs_pil(what: str) -> None:
         raise unittest.SkipTest(f'{what}: {told("PIL")}')
 
 
-def needs_root(what: str) -> None:
-    """Skips the test of that where it is run by another user, who can make no file of somebody else's."""
-    if missing('root'):
-        raise unittest.SkipTest(f'{what}: {told("root")}')
-
-
-def needs_terminal(what: str) -> None:
-    """Skips the test of that where no process can have a terminal of its own."""
-    if missing('a terminal'):
-        raise unittest.SkipTest(f'{what}: {told("a terminal")}')
+def needs(what: str, *things: str) -> None:
+    """Skips the test of that where a thing is missing that `make doctor` looks for."""
+    if lines := missing(*things):
+        raise unittest.SkipTest(f'{what}: {"; ".join(lines)}')
 
 
 def image_of(path: Path):

@@ -16,7 +16,7 @@ from pathlib import Path
 
 from gbkeep import debug_program
 from gbkeep_tests import support
-from gbkeep_tests.support import CART, DEMO, expect, needs_terminal, tool_words, until, written_png, wrong
+from gbkeep_tests.support import CART, DEMO, expect, needs, tool_words, until, written_png, wrong
 
 # how long an answer may take
 SECONDS = 60
@@ -571,7 +571,7 @@ def test_interrupt(room):
 
 def test_prompt(room):
     """Tab completes lines and labels, Ctrl-C clears a line and ends a run, a wrong line does not end it, Ctrl-D does."""
-    needs_terminal('the prompt of the debugger')
+    needs('the prompt of the debugger', 'a terminal')
     child, terminal = pty.fork()
     if child == 0:
         signal.signal(signal.SIGINT, signal.SIG_DFL)

@@ -7,13 +7,11 @@ What a person sees of it is tried by test_window.py. The status is 1 where a tes
 import json
 import os
 import re
-import shutil
 import subprocess
 import sys
 import tempfile
 import time
 import types
-import unittest
 import zipfile
 from pathlib import Path
 
@@ -29,7 +27,7 @@ from gbkeep.going_back import GoingBack
 from gbkeep.machines import MissingProgram, Refused
 from gbkeep.palettes import NAMES, PALETTES
 from gbkeep_tests import support
-from gbkeep_tests.support import CART, TOP, expect, refusal
+from gbkeep_tests.support import CART, TOP, expect, needs, refusal
 
 PICTURE = bytes(160 * 144)
 SAVE_BYTES = b'GBKPROOT' + bytes(12) + bytes.fromhex('ab' * 32) + bytes(1024)
@@ -655,11 +653,9 @@ def test_the_model_knows_no_toolkit():
 
 def test_types():
     """The annotations agree with one another, as far as mypy sees: GTK has none."""
-    found = shutil.which('mypy')
-    if not found:
-        raise unittest.SkipTest('the types of the window: mypy is missing: install mypy')
+    needs('the types of the window', 'mypy')
     with tempfile.TemporaryDirectory(prefix='mypy-') as cache:
-        done = subprocess.run([found, '--python-version', '3.10', '--ignore-missing-imports', '--follow-imports=silent', '--cache-dir', cache, '-p', 'gbkeep.desktop',
+        done = subprocess.run(['mypy', '--python-version', '3.10', '--ignore-missing-imports', '--follow-imports=silent', '--cache-dir', cache, '-p', 'gbkeep.desktop',
                                '-m', 'gbkeep.window', '-m', 'gbkeep.going_back'], cwd=TOP / 'python', capture_output=True, text=True,
                               env={name: value for name, value in os.environ.items() if name != 'PYTHONPATH'})
     expect('mypy', (done.returncode, [line for line in done.stdout.splitlines() if ': error:' in line]), (0, []))

@@ -19,6 +19,7 @@ from unittest import mock
 from gbkeep import A, DOWN, LEFT, RIGHT, START, UP, Machine, NoState, Refused, Session
 from gbkeep_tests import support
 from gbkeep_tests.support import CART, TOP, expect
+from scripts.doctor import told
 
 try:
     import numpy
@@ -38,7 +39,7 @@ def begin(machine):
 
 def needs_numpy():
     if numpy is None:
-        raise unittest.SkipTest('numpy is missing: install python3-numpy')
+        raise unittest.SkipTest(f"with arrays: {told('numpy')}")
 
 
 def played(env, seed, actions):

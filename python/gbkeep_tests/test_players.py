@@ -20,7 +20,7 @@ from array import array
 from pathlib import Path
 
 from gbkeep_tests import support
-from gbkeep_tests.support import CART, TOP, clock_cart, expect, needs_terminal
+from gbkeep_tests.support import CART, TOP, clock_cart, expect, needs
 from gbkeep.branch import branch
 from gbkeep.film import BLACK, BRIGHT, DIM, HEAD as FILM_HEAD, lines_below
 from gbkeep.game import A, LEFT, RIGHT, START, Game, DebugMachine, NoState, Refused, begin, run
@@ -102,7 +102,7 @@ class Room(support.Room):
 
     def tool_at_terminal(self, tool, *words):
         """The status of a tool, what it prints, and what it tells a terminal."""
-        needs_terminal('what a tool tells a terminal')
+        needs('what a tool tells a terminal', 'a terminal')
         ours, terminal = pty.openpty()
         done = subprocess.run([*words_of(tool), *words], stdout=subprocess.PIPE, stderr=terminal, env=dict(os.environ, GBKEEP=self.program))
         os.close(terminal)

@@ -18,7 +18,7 @@ from xml.etree import ElementTree
 
 from examples.demo.assemble import Assembler
 from gbkeep_tests import support
-from gbkeep_tests.support import TOP, expect, needs_terminal, tool_words, written_png
+from gbkeep_tests.support import TOP, expect, needs, tool_words, written_png
 
 EXAMPLES = TOP / 'examples'
 # how long a run may take
@@ -126,7 +126,7 @@ class Room(support.Room):
 
     def on_terminal(self, *words: str, program: Optional[str] = None, until: str = '') -> str:
         """What a terminal gets. Where it has got `until`, the file `wait` is removed."""
-        needs_terminal('the lines of a run on a terminal')
+        needs('the lines of a run on a terminal', 'a terminal')
         child, terminal = pty.fork()
         if child == 0:
             os.chdir(self.folder)

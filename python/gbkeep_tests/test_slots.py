@@ -20,7 +20,7 @@ import zlib
 from pathlib import Path
 
 from gbkeep_tests import support
-from gbkeep_tests.support import CART, DAY, TOP, clock_cart, clock_shown, expect, needs_root, seconds_shown
+from gbkeep_tests.support import CART, DAY, TOP, clock_cart, clock_shown, expect, needs, seconds_shown
 from gbkeep import slots as slots_module
 from gbkeep.game import A, LEFT, RIGHT, DebugMachine, Game, Refused, begin, header_of, run
 from gbkeep.input_files import WrongInput
@@ -276,7 +276,7 @@ def test_planted_links(room):
 
 def test_files_of_other_users(room):
     """What another user has put beside SAVE is not taken; what belongs to the user whose SAVE it is stays his, also where root plays it."""
-    needs_root('slots, files of other users')
+    needs('slots, files of other users', 'root')
     save, slots, times = room.game('run.gbkeep', 10, room.clock_cart), room.slots(room.path('run.gbkeep'), has_clock=True), Times(5_000)
     with times.open(room, save) as game:
         game.save_all()
