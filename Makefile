@@ -312,6 +312,7 @@ test:
 	python3 -B scripts/front_door.py
 	python3 -B packaging/completions.py check
 	python3 -B examples/speed/build.py check
+	python3 -B scripts/test_shipped.py
 	python3 -B scripts/refusal_table.py --check
 	python3 -B scripts/page.py check
 	if python3 -B scripts/doctor.py --try 'the parts of the page that need no browser' node; then node --test web/tests/; fi
