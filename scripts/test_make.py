@@ -19,7 +19,7 @@ from pathlib import Path
 from gbkeep.pictures import shades_of
 from gbkeep_tests import support
 from gbkeep_tests.support import TOP, expect
-from scripts import alive, build, clean, doctor
+from scripts import alive, build, clean, doctor, front_door
 
 # a computer with make, Python and what is on each of Debian's
 BASICS = '''[ basename bash cat chmod cp cut date dirname echo env expr false find grep head ln ls make mkdir mktemp mv printf rm rmdir sed sh sleep sort tail
@@ -565,7 +565,16 @@ def test_size(folder):
     expect('words', [clean.in_words(one) for one in (0, 1234, 2_000_000, 8_600_000_000)], ['0 bytes', '1,234 bytes', '2 MB', '8.6 GB'])
 
 
-# ---- the help
+# ---- the page, and the help
+
+def test_readme(folder):
+    """README's first commands serve the page, and then are those that need `rt`, make and Python alone: `make demo`, and `make test`."""
+    commands = [line for block in front_door.blocks((TOP / 'README.md').read_text()) for line, _ in block]
+    expect('the first commands', [line.partition('#')[0].strip() for line in commands[:3]], ['python3 -m http.server -d web/page 8000', 'make demo', 'make test'])
+    needs = {need for target in ('demo', 'test') for own, files in [doctor.TARGETS[target]] for need in (*own, *(one for file in files for one in needs_of(file)))}
+    # bash is in each of Debian's
+    expect('what they need', sorted(needs), ['bash', 'rt'])
+
 
 def test_help(folder):
     """The help fits a terminal of 80 columns, has players' targets first, and needs nothing."""
