@@ -13,6 +13,9 @@ COMMANDS, LINES = 'crates/command_line/specs/Commands.antt', 'crates/script/spec
 README, MANUAL, COMPLETION, MAKE = 'README.md', 'docs/COMMANDS.md', 'completions/gbkeep.bash', 'Makefile'
 PLAYERS, TESTERS = 'docs/PLAYING.md', 'docs/TESTING_ROMS.md'
 ORDERS, STREAM_ORDERS, PROMPT = 'crates/debugging/specs/Orders.antt', 'crates/streaming/specs/Orders.antt', 'python/gbkeep/debug.py'
+LOOKS = 'crates/machine_lines/specs/Looks.antt'
+# lines whose answers are bytes for a program, and which no person types
+RAW = {'bytes', 'shades'}
 WORDS, ARCHITECTURE = 'crates/command_line/src/words.rt', 'docs/ARCHITECTURE.md'
 # the library, where it is built
 BUILT = [Path('bin', name) for name in ('libgbkeep.so', 'libgbkeep.a', 'gbkeep.h', 'gbkeep.pc')]
@@ -39,14 +42,19 @@ def lines_of(texts):
     return set(re.findall(r'name \(codes "(\w+)"\)', texts[LINES]))
 
 
+def named_in(*texts):
+    """The names of the lines that definitions read."""
+    return {name for text in texts for name in re.findall(r'name \(codes "([\w-]+)"\)', text)}
+
+
 def orders_of(texts):
     """The names of a debugger's lines."""
-    return set(re.findall(r'name \(codes "([\w-]+)"\)', texts[ORDERS])) | lines_of(texts) - {'save'}
+    return named_in(texts[ORDERS], texts[LOOKS]) | lines_of(texts) - {'save'}
 
 
 def stream_lines_of(texts):
     """The names of a stream's own lines."""
-    return set(re.findall(r'name \(codes "([\w-]+)"\)', texts[STREAM_ORDERS])) | {'picture'}
+    return named_in(texts[STREAM_ORDERS], texts[LOOKS])
 
 
 # ---- what the documents have
@@ -99,7 +107,7 @@ def differences(texts):
                       lines_of(texts) | stream_lines_of(texts))
     wrong += compared(MANUAL, 'line of a debugger', [one.split()[0] for _, cells in rows(texts[MANUAL], 'Line | Does') for one in code(cells[0])], orders_of(texts))
     prompt = re.search(r"^HELP = '''(.*?)'''", texts[PROMPT], re.S | re.M)
-    wrong += compared(PROMPT, 'line of its help', re.findall(r'^  ([a-z-]+) ', prompt[1] if prompt else '', re.M), orders_of(texts))
+    wrong += compared(PROMPT, 'line of its help', re.findall(r'^  ([a-z-]+) ', prompt[1] if prompt else '', re.M), orders_of(texts) - RAW)
     wrong += compared(README, 'command', [one for _, cells in rows(texts[README], 'Command') for one in code(cells[0])], heads)
     words = {*commands, 'help', '--help', '--version'}
     wrong += compared(COMPLETION, 'first word', completed(texts[COMPLETION], 'gbkeep', ''), words)
@@ -158,10 +166,9 @@ def deletions(texts):
         yield WORDS, line, ''
     for line in re.findall(rf'^  (?:{names}) .*\n', texts[PROMPT], re.M):
         yield PROMPT, line, ''
-    for name in orders_of(texts) - lines_of(texts):
-        yield ORDERS, f'name (codes "{name}")', 'name (codes "")'
-    for name in stream_lines_of(texts) - {'picture'}:
-        yield STREAM_ORDERS, f'name (codes "{name}")', 'name (codes "")'
+    for path in (ORDERS, STREAM_ORDERS, LOOKS):
+        for name in named_in(texts[path]) - lines_of(texts):
+            yield path, f'name (codes "{name}")', 'name (codes "")'
     for line in re.findall(r'^\| `\w+`.*\| `\S+\.rt` \|.*$', texts[ARCHITECTURE], re.M):
         yield ARCHITECTURE, line, re.sub(r'^\| `(\w+)`', r'| `\1x`', line)
 
@@ -311,7 +318,7 @@ def completes_names(room, texts):
 
 
 def main():
-    texts = {path: Path(path).read_text() for path in [README, MANUAL, PLAYERS, TESTERS, COMPLETION, MAKE, COMMANDS, LINES, ORDERS, STREAM_ORDERS, PROMPT, WORDS, ARCHITECTURE]}
+    texts = {path: Path(path).read_text() for path in [README, MANUAL, PLAYERS, TESTERS, COMPLETION, MAKE, COMMANDS, LINES, ORDERS, STREAM_ORDERS, LOOKS, PROMPT, WORDS, ARCHITECTURE]}
     wrong, seen = differences(texts), 0
     for path, piece, left in deletions(texts) if not wrong else []:
         seen += 1

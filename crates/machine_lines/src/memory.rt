@@ -30,7 +30,7 @@ fn line(machine: &Machine, address: u16, count: u32) -> ArrayString<64>
 }
 
 /// Writes `count` bytes from an address on, sixteen a line. Addresses wrap around after FFFF.
-pub fn write_memory<W: Output>(
+pub(crate) fn write_memory<W: Output>(
     machine: &Machine,
     address: u16,
     count: u32,

@@ -16,7 +16,7 @@ use state_header::header;
 
 /// Writes how many bytes the machine's state has, and its bytes. Conditions: the machine is one of the cartridge, and the slice has room for its
 /// snapshot.
-pub fn write_state<W: Output>(
+pub(crate) fn write_state<W: Output>(
     machine: &Machine,
     cartridge: &Cartridge,
     snapshot: &mut [u8],
