@@ -16,6 +16,8 @@ use Rattle.machine.proofs.Watching.{seen-step, seen-end}
 use Rattle.debugger.specs.History.{DebuggerState}
 use Rattle.debugger.proofs.Histories.{keep_last-all, keep_last-again}
 use Rattle.circular_buffer.specs.Buffer.{keep_last}
+use Rattle.debugging.specs.declared.position.Played.{Played}
+use Rattle.debugging.specs.Position.{frame_cycles, with_frame}
 use Rattle.debugging.specs.Run.{Rest, RunState, after_frame, after_frames, most_sent, rest_in, rest_until, sent_first}
 
 abbrev pub nothing_more : FrameState → Rest
@@ -175,15 +177,17 @@ playing_on buttons r old new bytes capacity breaks f g so_far room kept seen =
       end = so_far.end ∙ ap (λ (x : Rest). x.end) rest;
     }
 
-pub played : (buttons : ℕ) (r : RunState) (sent : List ℕ) (f : FrameState) (d : DebuggerState) → IsPlaying buttons r sent f → 17556 ≤ f.passed → length sent ≤ most_sent
-    → d ≡ record { machine = machine_after f; size = r.debugger.size; history = [] } → record { debugger = d; sent = sent } ≡ after_frame buttons r
-played buttons r sent f d playing above kept is =
+pub played : (buttons : ℕ) (r : RunState) (sent : List ℕ) (f : FrameState) (d : DebuggerState) (counted : Played) → IsPlaying buttons r sent f → 17556 ≤ f.passed → length sent ≤ most_sent
+    → d ≡ record { machine = machine_after f; size = r.debugger.size; history = [] } → counted ≡ with_frame (frame_cycles r.debugger.machine (machine_after f)) r.played
+    → record { debugger = d; sent = sent; played = counted } ≡ after_frame buttons r
+played buttons r sent f d counted playing above kept is count =
     let end = over f above in
     let machine = frame_after buttons r.debugger.machine f (playing.end ∙ ap (λ (x : Rest). x.end) end) in
     let bytes : sent ≡ keep_last most_sent (r.sent ++ (rest_in (begun_with buttons r.debugger.machine)).sent) =
     sym (playing.bytes ∙ ap (λ (x : Rest). keep_last most_sent (sent ++ x.sent)) end ∙ ap (keep_last most_sent) (append-nil sent) ∙ keep_last-all most_sent sent kept) in
-    ap (λ (e : DebuggerState). run_as e sent) (is ∙ ap (λ (m : MachineState). record { machine = m; size = r.debugger.size; history = [] }) machine)
-    ∙ ap (run_as (record { machine = frame_played buttons r.debugger.machine; size = r.debugger.size; history = [] })) bytes
+    ap (λ (e : DebuggerState). run_as e sent counted) (is ∙ ap (λ (m : MachineState). record { machine = m; size = r.debugger.size; history = [] }) machine)
+    ∙ ap (λ (bs : List ℕ). run_as (record { machine = frame_played buttons r.debugger.machine; size = r.debugger.size; history = [] }) bs counted) bytes
+    ∙ ap (run_as (after_frame buttons r).debugger (after_frame buttons r).sent) (count ∙ ap (λ (m : MachineState). with_frame (frame_cycles r.debugger.machine m) r.played) machine)
   where
-    run_as : DebuggerState → List ℕ → RunState
-    run_as e bs = record { debugger = e; sent = bs }
+    run_as : DebuggerState → List ℕ → Played → RunState
+    run_as e bs c = record { debugger = e; sent = bs; played = c }

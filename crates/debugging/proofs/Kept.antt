@@ -12,7 +12,7 @@ use Rattle.std.proofs.lemmas.List.Elements.{All-cons, All-nil}
 use Rattle.machine.specs.Machine.{Frame, PassesTime, after}
 use Rattle.machine.proofs.KeptByInputs.{bus_keeps, by_inputs}
 use Rattle.debugging.specs.declared.order.Order.{Order}
-use Rattle.debugging.specs.declared.order.Order.TheVariants.{Frames, Seconds, Step, Until, Continue, Set, SetRegister, Registers, History, List as Listing, Look, Bank, Serial, Digest}
+use Rattle.debugging.specs.declared.order.Order.TheVariants.{Frames, Seconds, Step, Until, Continue, Set, SetRegister, Registers, History, List as Listing, Look, Bank, Serial, Digest, Position}
 use Rattle.snapshot.specs.Encoding.{snapshot_length}
 use Rattle.snapshot.specs.Legal.{IsOfImage}
 use Rattle.memory_map.proofs.SameCartridge.{write_same}
@@ -62,6 +62,7 @@ order_keeps (Look look) r = itself r
 order_keeps (Bank address) r = itself r
 order_keeps Serial r = itself r
 order_keeps Digest r = itself r
+order_keeps Position r = itself r
 
 asked_keeps : (asked : Option Order) (r : RunState) → IsKept r (after_asked asked r)
 asked_keeps None r = itself r

@@ -18,6 +18,7 @@ use Rattle.state_header.specs.States.{header_of, snapshot_in, IsLegalState}
 use Rattle.state_header.proofs.States.{header_is, header_long, rest_is}
 use Rattle.debugger.specs.History.{DebuggerState}
 use Rattle.sm83_processor.specs.declared.step.Executed.{Executed}
+use Rattle.debugging.specs.declared.position.Played.{Played}
 use Rattle.debugging.specs.Run.{RunState}
 use Rattle.debugging.specs.States.{after_snapshot, is_given, is_snapshot, is_state, restored, rom_of}
 use Rattle.debugging.specs.Answers.{after_restore}
@@ -67,13 +68,13 @@ module _ (rom bytes : List ℕ) (r : RunState) (of : IsOfImage rom r.debugger.ma
       (f, rw f refl)
 
 -- a run of the parts of another one
-pub given_run : (r : RunState) (d : DebuggerState) (m : MachineState) (size : ℕ) (history : List Executed) (sent : List ℕ) → d ≡ record { machine = m; size = size; history = history } → size ≡ r.debugger.size → history ≡ []
-    → sent ≡ r.sent → record { debugger = d; sent = sent } ≡ record r { debugger = record r.debugger { machine = m; history = [] } }
-given_run r d m size history sent is same none kept = rw (is, same, none, kept) refl
+pub given_run : (r : RunState) (d : DebuggerState) (m : MachineState) (size : ℕ) (history : List Executed) (sent : List ℕ) (played : Played) → d ≡ record { machine = m; size = size; history = history } → size ≡ r.debugger.size → history ≡ []
+    → sent ≡ r.sent → played ≡ r.played → record { debugger = d; sent = sent; played = played } ≡ record r { debugger = record r.debugger { machine = m; history = [] } }
+given_run r d m size history sent played is same none kept counted = rw (is, same, none, kept, counted) refl
 
-pub same_run : (r : RunState) (d : DebuggerState) (m : MachineState) (size : ℕ) (history : List Executed) (sent : List ℕ) → d ≡ record { machine = m; size = size; history = history } → m ≡ r.debugger.machine
-    → size ≡ r.debugger.size → history ≡ r.debugger.history → sent ≡ r.sent → record { debugger = d; sent = sent } ≡ r
-same_run r d m size history sent is machine same all kept = rw (is, machine, same, all, kept) refl
+pub same_run : (r : RunState) (d : DebuggerState) (m : MachineState) (size : ℕ) (history : List Executed) (sent : List ℕ) (played : Played) → d ≡ record { machine = m; size = size; history = history } → m ≡ r.debugger.machine
+    → size ≡ r.debugger.size → history ≡ r.debugger.history → sent ≡ r.sent → played ≡ r.played → record { debugger = d; sent = sent; played = played } ≡ r
+same_run r d m size history sent played is machine same all kept counted = rw (is, machine, same, all, kept, counted) refl
 
 -- ---- behind a line
 

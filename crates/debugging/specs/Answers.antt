@@ -16,9 +16,10 @@ use Rattle.debugger.specs.Listing.{lines_from}
 use Rattle.debugger.specs.Registers.{register_line}
 use Rattle.debugger.specs.Report.{line_seen, step_lines}
 use Rattle.debugging.specs.declared.order.Order.{Order}
-use Rattle.debugging.specs.declared.order.Order.TheVariants.{Frames, Seconds, Step, Until, Continue, Set, SetRegister, Registers, History, List as Listing, Look, Bank, Serial, Digest}
+use Rattle.debugging.specs.declared.order.Order.TheVariants.{Frames, Seconds, Step, Until, Continue, Set, SetRegister, Registers, History, List as Listing, Look, Bank, Serial, Digest, Position}
 use Rattle.debugging.specs.declared.order.StateOrder.{StateOrder}
 use Rattle.debugging.specs.declared.order.StateOrder.TheVariants.{Power, Keep, Back, Profile}
+use Rattle.debugging.specs.Position.{position_line}
 use Rattle.debugging.specs.Profile.{cycles_text, no_cycles, with_steps}
 use Rattle.debugging.specs.Setting.{byte_set, register_set}
 use Rattle.debugging.specs.Orders.{order_of, restore_of, state_order_of}
@@ -89,6 +90,7 @@ after_order (Look look) r = r
 after_order (Bank address) r = r
 after_order Serial r = record r { sent = [] }
 after_order Digest r = r
+after_order Position r = r
 
 -- the answer to an order that leaves the debugger as `new`
 abbrev pub answer_from : Order → (old new : RunState) → List ℕ
@@ -106,6 +108,7 @@ answer_from (Look look) old new = look_text look old.debugger.machine
 answer_from (Bank address) old new = bank_line (bank_at (processor_of old).memory address)
 answer_from Serial old new = serial_text old.sent
 answer_from Digest old new = digest_text old.debugger.machine
+answer_from Position old new = position_line old.played (processor_of old).memory.picture.picture.state
 
 abbrev pub answer_to : Order → RunState → List ℕ
 answer_to order r = answer_from order r (after_order order r)

@@ -8,6 +8,7 @@ pub mod Profile
 pub mod States
 pub mod KeptStates
 pub mod Numbers
+pub mod Position
 pub mod Answers
 pub mod Debugged
 -- what only the code needs

@@ -9,7 +9,7 @@ use Rattle.script.specs.Line.{byte_of, count_of, move_of_line, words_of}
 use Rattle.debugging.specs.declared.order.Place.{Place}
 use Rattle.debugging.specs.declared.order.Span.{Span}
 use Rattle.debugging.specs.declared.order.Order.{Order}
-use Rattle.debugging.specs.declared.order.Order.TheVariants.{Frames, Seconds, Step, Until, Continue, Set, SetRegister, Registers, History, List as Listing, Look as Looks, Bank, Serial, Digest}
+use Rattle.debugging.specs.declared.order.Order.TheVariants.{Frames, Seconds, Step, Until, Continue, Set, SetRegister, Registers, History, List as Listing, Look as Looks, Bank, Serial, Digest, Position}
 use Rattle.debugging.specs.declared.order.Condition.{Condition}
 use Rattle.debugging.specs.declared.order.Condition.TheVariants.{At, Runs, Reads, Writes, Changes}
 use Rattle.debugging.specs.Setting.{register_of}
@@ -122,12 +122,13 @@ order_of_move (SecondsMove count) = Some (Seconds count)
 order_of_move Save = None
 order_of_move PowerMove = None
 
--- `registers`, `serial`, `digest`
+-- `registers`, `serial`, `digest`, `position`
 abbrev pub order_of_one : List ℕ → Option Order
 order_of_one name =
     if bytes_eq name (codes "registers") then Some Registers
     else (if bytes_eq name (codes "serial") then Some Serial
-    else (if bytes_eq name (codes "digest") then Some Digest else None))
+    else (if bytes_eq name (codes "digest") then Some Digest
+    else (if bytes_eq name (codes "position") then Some Position else None)))
 
 -- `step N`, `history N`, `bank ADDR`
 abbrev pub order_of_two : List ℕ → List ℕ → Option Order

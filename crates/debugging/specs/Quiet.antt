@@ -6,6 +6,7 @@ use Rattle.memory_map.specs.Bus.{peeked}
 use Rattle.memory_map.specs.BusRules.{bus_rules}
 use Rattle.sm83_processor.specs.Steps.{after_steps}
 use Rattle.sm83_processor.specs.declared.processor.Processor.{Processor}
+use Rattle.machine.specs.Machine.{cycles_of_steps}
 use Rattle.debugger.specs.History.{DebuggerState, after_run}
 use Rattle.debugging.specs.Run.{RunState, after_steps_of, is_before, is_changed, is_place, processor_of}
 use Rattle.debugging.specs.Accesses.{is_reading, is_writing}
@@ -32,15 +33,16 @@ pub record StopsBefore (is_there : Processor BusState → Bool) (limit : ℕ) (o
   pub due : steps < limit
   pub there : is_there (processor_of new) ≡ true
 
--- the same of a debugger alone
-pub record MakesIn (is_there : Processor BusState → Bool) (steps : ℕ) (old new : DebuggerState) : Type 0 where
+-- the same of a debugger alone, and the M-cycles of the steps
+pub record MakesIn (is_there : Processor BusState → Bool) (steps cycles : ℕ) (old new : DebuggerState) : Type 0 where
   pub some : 0 < steps
   pub past : (k : ℕ) → 0 < k → k < steps → is_there (after_steps bus_rules k old.machine.processor) ≡ false
   pub run : new ≡ after_run steps old
+  pub took : cycles ≡ cycles_of_steps bus_rules steps old.machine.processor
 
-pub record StopsIn (is_there : Processor BusState → Bool) (limit : ℕ) (old new : DebuggerState) : Type 0 where
+pub record StopsIn (is_there : Processor BusState → Bool) (limit cycles : ℕ) (old new : DebuggerState) : Type 0 where
   pub steps : ℕ
-  pub made : MakesIn is_there steps old new
+  pub made : MakesIn is_there steps cycles old new
   pub due : steps < limit
   pub there : is_there new.machine.processor ≡ true
 

@@ -9,17 +9,20 @@ use Rattle.sm83_processor.specs.Steps.{step_of}
 use Rattle.sm83_processor.specs.declared.processor.Processor.{Processor}
 use Rattle.sm83_processor.specs.declared.step.StepKind.{StepKind}
 use Rattle.sm83_processor.specs.declared.step.StepKind.TheVariants.{Dispatch, Wait, Ran}
-use Rattle.machine.specs.Machine.{MachineState, cycles_per_frame, frame_played, seconds_passed}
+use Rattle.machine.specs.Machine.{MachineState, cycles_of_steps, cycles_per_frame, frame_played, seconds_passed}
 use Rattle.machine.specs.Sent.{sent_in, sent_in_step}
 use Rattle.machine.specs.Watched.{FrameState, after_step, begun_with}
 use Rattle.debugger.specs.History.{DebuggerState, after_run}
 use Rattle.debugging.specs.declared.order.Place.{Place}
+use Rattle.debugging.specs.declared.position.Played.{Played}
 use Rattle.debugging.specs.Banks.{bank_at}
+use Rattle.debugging.specs.Position.{frame_cycles, none_played, with_cycles, with_frame}
 
--- a debugger, and the bytes that its machine sent over the serial port and that were not told yet
+-- a debugger, the bytes that its machine sent over the serial port and that were not told yet, and what was played since it began
 pub record RunState : Type 0 where
   pub debugger : DebuggerState
   pub sent : List ℕ
+  pub played : Played
 
 abbrev pub processor_of : RunState → Processor BusState
 processor_of r = r.debugger.machine.processor
@@ -33,7 +36,7 @@ abbrev pub most_history : ℕ
 most_history = 1024
 
 abbrev pub begun : MachineState → RunState
-begun m = record { debugger = record { machine = m; size = most_history; history = [] }; sent = [] }
+begun m = record { debugger = record { machine = m; size = most_history; history = [] }; sent = []; played = none_played }
 
 -- ---- steps
 
@@ -41,6 +44,7 @@ abbrev pub after_steps_of : ℕ → RunState → RunState
 after_steps_of n r = record {
   debugger = after_run n r.debugger;
   sent = keep_last most_sent (r.sent ++ sent_in n (processor_of r));
+  played = with_cycles (cycles_of_steps bus_rules n (processor_of r)) r.played;
 }
 
 -- the steps that are made of at most n, up to the first that begins at such a place
@@ -102,6 +106,7 @@ abbrev pub after_frame : ℕ → RunState → RunState
 after_frame buttons r = record {
   debugger = record r.debugger { machine = frame_played buttons r.debugger.machine; history = [] };
   sent = keep_last most_sent (r.sent ++ (rest_in (begun_with buttons r.debugger.machine)).sent);
+  played = with_frame (frame_cycles r.debugger.machine (frame_played buttons r.debugger.machine)) r.played;
 }
 
 abbrev pub after_frames : ℕ → ℕ → RunState → RunState

@@ -12,6 +12,7 @@ ghost use Rattle.debugger.specs.Registers.{register_line};
 ghost use Rattle.debugger.specs.Report.{line_seen, step_lines};
 ghost use Rattle.debugging.specs.Answers.{after_line, after_order, answer_line, answer_to, history_text, met_text, restored_text, digest_line, digest_text, place_text, serial_text, wrong_line};
 ghost use Rattle.debugging.specs.Answers.{bank_line};
+ghost use Rattle.debugging.specs.Position.{position_line};
 ghost use Rattle.debugging.specs.States.{after_snapshot, is_snapshot, rom_of};
 ghost use Rattle.debugging.specs.Banks.{bank_at};
 ghost use Rattle.debugging.specs.Quiet.{HasRom};
@@ -19,6 +20,7 @@ ghost use Rattle.debugging.specs.Run.{after_steps_of, processor_of};
 
 use crate::banks::bank_at;
 use crate::order::{Order, read_order};
+use crate::position::{picture_state, position_text};
 use crate::run::{Run, RunMet, RunRestored};
 use arrayvec::ArrayString;
 use cartridge::Cartridge;
@@ -205,6 +207,10 @@ fn obey<W: Output>(
         }
         Order::Digest => {
             let written = write_digest(run.debugger().machine(), snapshot, out);
+            Answered { run, written }
+        }
+        Order::Position => {
+            let written = write_position(&run, out);
             Answered { run, written }
         }
     }
@@ -443,6 +449,21 @@ fn write_digest<W: Output>(
 {
     encode(machine, snapshot);
     let text = digest_text(Sha256::digest(snapshot));
+    write_whole(out, text.as_bytes())
+}
+
+/// Writes where in time a run is.
+fn write_position<W: Output>(run: &Run, out: &mut W) -> Result<(), OutputFailed>
+    ensures ok { OnOk result
+        (Appends (W.contents out.old) (W.contents out.new)
+        (position_line run.now.played (processor_of run.now).memory.picture.picture.state)) }
+    ensures err { OnErr result
+        (AppendsProperPrefix (W.contents out.old) (W.contents out.new)
+        (position_line run.now.played (processor_of run.now).memory.picture.picture.state)) }
+    ensures failed { OnErr result (W.has_failed out.new ≡ true) }
+{
+    let picture = picture_state(run.debugger().machine());
+    let text = position_text(run.played(), &picture);
     write_whole(out, text.as_bytes())
 }
 

@@ -13,6 +13,7 @@ mod given;
 mod obeying;
 pub mod order;
 mod passing;
+mod position;
 mod probe;
 mod profiling;
 pub mod registers;

@@ -106,6 +106,7 @@ impl LineDebugger {
     /// | `state` | nothing | `state K`, and the K bytes of the machine's state |
     /// | `restore K`, and K bytes | the machine becomes the one of this state; the history is empty then | `restored` |
     /// | `digest` | nothing | `digest` and the SHA-256 of the machine's snapshot |
+    /// | `position` | nothing | `position CYCLES FRAMES LY CYCLE MODE`: M-cycles and frames that were made since the debugger began, each modulo 2^64; the line, its M-cycle, and the mode as STAT shows it |
     /// | `power` | the power switch, off and on: RAM and clock stay where the cartridge has a battery; the history is empty then | `done` |
     /// | `keep N` | nothing; the machine is kept under N, 0 to 999, in place of one that was | `kept N` |
     /// | `back N` | the machine becomes the one that was kept last under N; the history is empty then. The line is wrong where none was | `back N` |

@@ -105,6 +105,8 @@ pub enum Order {
     Serial,
     /// The digest of the machine's snapshot.
     Digest,
+    /// Where in time the run is.
+    Position,
 }
 
 /// What a line asks for that takes memory, or goes back to what has taken some.
@@ -267,6 +269,9 @@ fn with_none(name: &[u8]) -> Option<Order>
     }
     if is_word(name, b"digest") {
         return Some(Order::Digest);
+    }
+    if is_word(name, b"position") {
+        return Some(Order::Position);
     }
     None
 }

@@ -1,7 +1,8 @@
 //! A debugger's machine, run by steps, up to a place, or by frames.
 
-ghost use Rattle.std.specs.Prelude.{◌≡◌, ◌<◌, ◌≤◌, ◌++◌, [], ◌∷◌, length, true, false, IfOk, IfSome, nat_lt};
+ghost use Rattle.std.specs.Prelude.{◌≡◌, ◌<◌, ◌≤◌, ◌++◌, ◌*◌, [], ◌∷◌, length, true, false, IfOk, IfSome, nat_lt};
 ghost use Rattle.circular_buffer.specs.Buffer.{keep_last};
+ghost use Rattle.machine.specs.Machine.{cycles_of_steps};
 ghost use Rattle.machine.specs.Watched.{byte_list};
 ghost use Rattle.memory_map.specs.BusRules.{bus_rules};
 ghost use Rattle.sm83_processor.specs.Steps.{step_of};
@@ -19,11 +20,12 @@ ghost use Rattle.debugging.specs.Quiet.{HasRom, IsQuietFor, Makes, MakesIn, Stop
 use crate::aims::{Aim, addresses_of, aims_of, is_any, number_of};
 use crate::order::Condition;
 use crate::passing::{AimWatch, ChangeWatch, OpcodeWatch, ReadWatch, WriteWatch};
+use crate::position::{Played, frame_cycles, with_cycles, with_frame};
 use crate::registers::{RegisterValue, with_register};
 use cartridge::Cartridge;
 use circular_buffer::HeapCircularBuffer;
 use debugger::{Breaks, Debugger, RunRoom, WatchedStep};
-use machine::{Executed, Input, Machine, Processor, Stepped, Watch, Watched};
+use machine::{Executed, Input, Machine, Passed, Processor, Stepped, Watch, Watched};
 use machine_lines::{Look, shows_picture};
 use memory_map::Bus;
 use snapshot::{decode_into, powered};
@@ -42,11 +44,12 @@ const MOST_CYCLES: u32 = 6;
 /// The most steps that are made at once because no transfer can end in them: one that begins takes 1,024 M-cycles.
 const MOST_QUIET: u32 = 170;
 
-/// A debugger, and the bytes that its machine sent over the serial port and that were not told yet.
+/// A debugger, the bytes that its machine sent over the serial port and that were not told yet, and what was played since it began.
 #[derive(Drop)]
 pub(crate) struct Run {
     debugger: Debugger,
     sent: HeapCircularBuffer<u8>,
+    played: Played,
 }
 
 impl Model for Run {
@@ -55,7 +58,7 @@ impl Model for Run {
 
     ghost Value = { RunState };
 
-    ghost view = { λ r. record { debugger = r.debugger; sent = r.sent.items } };
+    ghost view = { λ r. record { debugger = r.debugger; sent = r.sent.items; played = r.played } };
 
     ghost invariant = { λ r. (r.sent.capacity ≡ most_sent) × (length r.sent.items ≤ most_sent) };
 }
@@ -82,6 +85,13 @@ pub(crate) struct RunMet {
     pub(crate) number: usize,
 }
 
+/// How many M-cycles some steps took, and whether they stopped at an aim.
+#[derive(Clone, Copy)]
+struct Went {
+    cycles: u64,
+    is_there: bool,
+}
+
 /// A run whose machine may have been given as its snapshot, and whether it was.
 #[derive(Drop)]
 pub(crate) struct RunRestored {
@@ -102,7 +112,14 @@ impl Run {
             }
         };
         match Debugger::new(alloc, machine, MOST_HISTORY) {
-            Ok(debugger) => Ok(Run { debugger, sent }),
+            Ok(debugger) => Ok(Run {
+                debugger,
+                sent,
+                played: Played {
+                    cycles: 0,
+                    frames: 0,
+                },
+            }),
             Err(_) => Err(AllocError),
         }
     }
@@ -119,6 +136,19 @@ impl Run {
         ensures { result.0.now ++ result.1.now ≡ self.now.sent }
     {
         self.sent.as_slices()
+    }
+
+    /// What was played since the debugger began.
+    pub(crate) fn played(&self) -> Played
+        ensures { result ≡ self.now.played }
+    {
+        self.played
+    }
+
+    fn cycles_played(&self) -> u64
+        ensures { result ≡ self.now.played.cycles }
+    {
+        self.played.cycles
     }
 
     /// All bytes are told.
@@ -140,6 +170,7 @@ impl Run {
         ensures { self.now ≡ after_steps_of 0 self.now }
     {
         let _held = self.debugger.history_len();
+        let _counted = self.cycles_played();
     }
 
     /// One step.
@@ -147,7 +178,11 @@ impl Run {
         ensures run { result.run ≡ after_steps_of 1 self }
         ensures stepped { result.stepped ≡ (step_of bus_rules (processor_of self)).stepped }
     {
-        let Run { debugger, mut sent } = self;
+        let Run {
+            debugger,
+            mut sent,
+            played,
+        } = self;
         let WatchedStep {
             debugger,
             stepped,
@@ -155,7 +190,11 @@ impl Run {
         } = debugger.step_watched();
         note(&mut sent, byte);
         RunStep {
-            run: Run { debugger, sent },
+            run: Run {
+                debugger,
+                sent,
+                played: with_cycles(played, u64::from(stepped.cycles)),
+            },
             stepped,
         }
     }
@@ -177,7 +216,9 @@ impl Run {
         ensures made { result ≡ false → Makes (is_any aims.now) limit self.old self.new }
         ensures there { result ≡ true → StopsBefore (is_any aims.now) limit self.old self.new }
     {
-        step_up_to(&mut self.debugger, room, watch, aims, rom, limit)
+        let went = step_up_to(&mut self.debugger, room, watch, aims, rom, limit);
+        self.played = with_cycles(self.played, went.cycles);
+        went.is_there
     }
 
     /// Steps up to one of these conditions, but at most `limit`. The first step is made wherever it begins. Conditions: there are sixteen of them
@@ -316,9 +357,14 @@ impl Run {
     fn frame(self, buttons: u8) -> Run
         ensures { result ≡ after_frame buttons self }
     {
-        let Run { debugger, mut sent } = self;
+        let Run {
+            debugger,
+            mut sent,
+            played,
+        } = self;
         let (machine, mut history) = debugger.into_parts();
         history.clear();
+        let before = machine.overrun();
         let mut frame = machine.begin_frame(buttons);
         'playing: while !frame.is_over() {
             let Watched {
@@ -329,9 +375,12 @@ impl Run {
             frame = after;
             note(&mut sent, byte);
         }
+        let machine = frame.end();
+        let cycles = frame_cycles(before, machine.overrun());
         Run {
-            debugger: Debugger::from_parts(frame.end(), history),
+            debugger: Debugger::from_parts(machine, history),
             sent,
+            played: with_frame(played, cycles),
         }
     }
 
@@ -350,12 +399,17 @@ impl Run {
     pub(crate) fn seconds(self, count: u32) -> Run
         ensures { result ≡ after_seconds count self }
     {
-        let Run { debugger, sent } = self;
+        let Run {
+            debugger,
+            sent,
+            played,
+        } = self;
         let (mut machine, history) = debugger.into_parts();
         machine.apply(Input::Seconds(count));
         Run {
             debugger: Debugger::from_parts(machine, history),
             sent,
+            played,
         }
     }
 
@@ -363,13 +417,18 @@ impl Run {
     pub(crate) fn set(self, address: u16, byte: u8) -> Run
         ensures { result ≡ with_machine (byte_set address byte self.debugger.machine) self }
     {
-        let Run { debugger, sent } = self;
+        let Run {
+            debugger,
+            sent,
+            played,
+        } = self;
         let (mut machine, mut seen) = debugger.into_parts();
         machine.write(address, byte);
         seen.clear();
         Run {
             debugger: Debugger::from_parts(machine, seen),
             sent,
+            played,
         }
     }
 
@@ -377,7 +436,11 @@ impl Run {
     pub(crate) fn set_register(self, value: RegisterValue) -> Run
         ensures { result ≡ with_machine (register_set value self.debugger.machine) self }
     {
-        let Run { debugger, sent } = self;
+        let Run {
+            debugger,
+            sent,
+            played,
+        } = self;
         let (mut machine, mut instructions) = debugger.into_parts();
         let mut state = machine.state();
         state.registers = with_register(state.registers, value);
@@ -386,6 +449,7 @@ impl Run {
         Run {
             debugger: Debugger::from_parts(machine, instructions),
             sent,
+            played,
         }
     }
 
@@ -396,7 +460,11 @@ impl Run {
         ensures restored { result.is_restored ≡ is_snapshot (rom_of self) snapshot.now }
         ensures of { IsOfImage cartridge.now result.run.debugger.machine }
     {
-        let Run { debugger, sent } = self;
+        let Run {
+            debugger,
+            sent,
+            played,
+        } = self;
         let (mut machine, mut kept) = debugger.into_parts();
         match decode_into(snapshot, cartridge, &mut machine) {
             Ok(()) => {
@@ -405,6 +473,7 @@ impl Run {
                     run: Run {
                         debugger: Debugger::from_parts(machine, kept),
                         sent,
+                        played,
                     },
                     is_restored: true,
                 }
@@ -413,6 +482,7 @@ impl Run {
                 run: Run {
                     debugger: Debugger::from_parts(machine, kept),
                     sent,
+                    played,
                 },
                 is_restored: false,
             },
@@ -425,7 +495,11 @@ impl Run {
         ensures run { IfOk result (λ run. run ≡ after_power self) }
         ensures of { IfOk result (λ run. IsOfImage cartridge.now run.debugger.machine) }
     {
-        let Run { debugger, sent } = self;
+        let Run {
+            debugger,
+            sent,
+            played,
+        } = self;
         let (machine, mut executed) = debugger.into_parts();
         let fresh = match powered(alloc, cartridge, &machine) {
             Ok(fresh) => fresh,
@@ -439,6 +513,7 @@ impl Run {
         Ok(Run {
             debugger: Debugger::from_parts(fresh, executed),
             sent,
+            played,
         })
     }
 
@@ -456,12 +531,17 @@ impl Run {
     pub(crate) fn draw_late(self) -> Run
         ensures { result ≡ self }
     {
-        let Run { debugger, sent } = self;
+        let Run {
+            debugger,
+            sent,
+            played,
+        } = self;
         let (mut machine, history) = debugger.into_parts();
         machine.draw_late();
         Run {
             debugger: Debugger::from_parts(machine, history),
             sent,
+            played,
         }
     }
 }
@@ -487,40 +567,56 @@ fn step_up_to<W: Watch>(
     aims: &[Aim],
     rom: usize,
     limit: u32,
-) -> bool
+) -> Went
     requires rom { HasRom rom debugger.old.machine.processor.memory }
     requires watch { (p : Processor BusState) → W.passes watch.now p → is_any aims.now p ≡ false }
     requires some { 0 < limit }
-    ensures made { result ≡ false → MakesIn (is_any aims.now) limit debugger.old debugger.new }
-    ensures there { result ≡ true → StopsIn (is_any aims.now) limit debugger.old debugger.new }
+    ensures made { result.is_there ≡ false →
+        MakesIn (is_any aims.now) limit result.cycles debugger.old debugger.new }
+    ensures there { result.is_there ≡ true →
+        StopsIn (is_any aims.now) limit result.cycles debugger.old debugger.new }
 {
     // the history is within its size, so a run of no step leaves it as it is
     let _held = debugger.history_len();
     let mut made = 0;
+    let mut cycles = 0;
     loop {
-        made += step_on(debugger, room, watch, limit - made);
+        let passed = step_on(debugger, room, watch, limit - made);
+        made += passed.steps;
+        cycles += passed.cycles;
         if made >= limit {
-            return false;
+            return Went {
+                cycles,
+                is_there: false,
+            };
         }
         if is_any(aims, rom, debugger.machine().processor()) {
-            return true;
+            return Went {
+                cycles,
+                is_there: true,
+            };
         }
     }
 }
 
-/// Makes steps, one at least and at most `limit`, of which the watch has let each but the first pass. Returns how many. Condition: `limit`
-/// is not 0.
-fn step_on<W: Watch>(debugger: &mut Debugger, room: &mut RunRoom, watch: &W, limit: u32) -> u32
+/// Makes steps, one at least and at most `limit`, of which the watch has let each but the first pass. Returns how many, and their M-cycles.
+/// Condition: `limit` is not 0.
+fn step_on<W: Watch>(debugger: &mut Debugger, room: &mut RunRoom, watch: &W, limit: u32) -> Passed
     requires { 0 < limit }
-    ensures run { HasPassed (W.passes watch.now) result debugger.old debugger.new }
-    ensures some { 0 < result }
-    ensures most { result ≤ limit }
+    ensures run { HasPassed (W.passes watch.now) result.steps debugger.old debugger.new }
+    ensures cycles { result.cycles ≡ cycles_of_steps bus_rules result.steps debugger.old.machine.processor }
+    ensures some { 0 < result.steps }
+    ensures most { result.steps ≤ limit }
+    ensures few { result.cycles ≤ 6 * result.steps }
 {
     if debugger.machine().is_fast() {
-        return debugger.run_watching(room, watch, limit).steps;
+        return debugger.run_watching(room, watch, limit);
     }
-    let _ = debugger.step();
-    1
+    let stepped = debugger.step();
+    Passed {
+        steps: 1,
+        cycles: u64::from(stepped.cycles),
+    }
 }
 
 /// For how many steps no transfer can end, 170 at most: each takes six M-cycles at most.

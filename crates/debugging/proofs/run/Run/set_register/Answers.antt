@@ -10,5 +10,5 @@ pub returns : goal.returns
 returns c =
     let is = registers_put_back c.args.value c.args.self.debugger.machine c.into_parts-machine.result.0 c.restore.new.self c.state-state.result c.with_register-state.result
     (c.into_parts-machine.ensures.machine ∙ ap (λ (r : RunState). r.debugger.machine) c.self.view_is) c.state-state.ensures.state c.with_register-state.ensures c.restore.ensures in
-    given_run c.args.self c.from_parts.result c.restore.new.self c.clear.new.self.capacity c.clear.new.self.items c.self.inside.sent.items c.from_parts.ensures (search rules) (search rules) (search rules)
+    given_run c.args.self c.from_parts.result c.restore.new.self c.clear.new.self.capacity c.clear.new.self.items c.self.inside.sent.items c.self.inside.played c.from_parts.ensures (search rules) (search rules) (search rules) (search rules)
     ∙ ap (λ (m : MachineState). with_machine m c.args.self) is
