@@ -85,7 +85,8 @@ const DEBUG_LINES: &str = "Lines of the standard input, each answered before the
   power             the power switch, off and on: what a battery keeps stays
   keep K            keeps the machine under K, 0 to 999
   back K            goes on from the machine that was kept under K
-  digest            the SHA-256 of the machine's snapshot";
+  digest            the SHA-256 of the machine's snapshot
+  position          M-cycles and frames that were made, the line, its M-cycle, the mode";
 
 const CART: Operand = Operand::Word("CART", "The ROM file");
 
