@@ -666,6 +666,66 @@ def test_a_run_stops_before_an_access(room):
     room.done('debug interrupted.gb', 'stopped 0050\n', 'until-change 2000 FFFC\n')
 
 
+def test_a_position_is_told(room):
+    """By hand: NOP takes an M-cycle and JR three, so that a frame ends with a step."""
+    room.rom('position.gb', '00 18fd')
+    room.done('debug position.gb', '''\
+position 0 0 0 0 2
+0100 00     NOP
+0101 18FD   JR -03
+0100 00     NOP
+position 5 0 0 5 2
+limit 0100
+position 112 0 0 112 0
+done
+done
+done
+position 35224 2 0 112 0
+kept 1
+0100 00     NOP
+position 35225 2 0 113 0
+back 1
+position 35225 2 0 112 0
+limit 0100
+elsewhere 0
+profile 2
+0000:0100 1
+0000:0101 3
+position 35229 2 1 2 2
+stopped 0101 1
+position 35230 2 1 3 2
+done
+position 35230 2 0 0 2
+''', '''\
+position
+step 3
+position
+until 53 0500
+position
+frames 00 2
+seconds 9
+set C000 00
+position
+keep 1
+step 1
+position
+back 1
+position
+profile 2
+position
+continue 9 101
+position
+power
+position
+''')
+    # a wait takes an M-cycle
+    room.rom('position.halt.gb', '76')
+    room.done('debug position.halt.gb', 'limit 0101\nposition 5 0 0 5 2\ndone\nposition 17561 1 0 5 2\n', 'until 5 0\nposition\nframe 00\nposition\n')
+    # with the LCD off no line goes on
+    room.rom('position.off.gb', '3e00 e040 18fe')
+    room.done('debug position.off.gb', 'limit 0104\nposition 5 0 0 0 0\ndone\nposition 52673 3 0 0 0\n', 'until 2 0\nposition\nframes 00 3\nposition\n')
+
+
 def test_a_place_has_a_bank(room):
     rom = bytearray(0x10000)
     code = bytes.fromhex(BANKED)

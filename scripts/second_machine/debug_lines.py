@@ -78,7 +78,8 @@ FORMS = [(re.compile(form), name, readers) for form, name, readers in (
     (rb'keep ' + COUNT, 'keep', (slot,)),
     (rb'back ' + COUNT, 'back', (slot,)),
     (rb'state', 'state', ()),
-    (rb'digest', 'digest', ()))]
+    (rb'digest', 'digest', ()),
+    (rb'position', 'position', ()))]
 RESTORE = re.compile(rb'restore ' + COUNT)
 MOST_GIVEN = 1048576
 # the first bytes of a state, and how many stand in front of its snapshot: these, and the SHA-256 of the ROM
@@ -240,9 +241,13 @@ class Debugger:
         machine.sent.clear()
         self.history = collections.deque(maxlen=MOST_HISTORY)
         self.kept = {}
+        # since the debugger began, whatever becomes of the machine
+        self.cycles = self.count = 0
 
     def step(self):
+        before = self.m.cycles
         line = self.m.trace_line()
+        self.cycles += self.m.cycles - before
         if not self.m.what:
             self.history.append(line)
         return line
@@ -337,7 +342,10 @@ class Debugger:
 
     def frames(self, buttons, count):
         for _ in range(count):
+            before = self.m.cycles
             self.m.frame(buttons)
+            self.cycles += self.m.cycles - before
+            self.count += 1
             self.history.clear()
         return 'done\n'
 
@@ -386,6 +394,7 @@ class Debugger:
             take_up(m, self.kept[words[0]])
             self.history.clear()
             return 'back %d\n' % words[0]
+        if name == 'position': return 'position %d %d %d %d %d\n' % (self.cycles, self.count, m.line_, m.mc, m.mode())
         if name == 'state':
             data = state(m)
             return b'state %d\n' % len(data) + data
@@ -437,7 +446,7 @@ WRONG = [b'step', b'step 0', b'step 4294967296', b'step 00000000001', b'step -1'
          b'frames 00 1000001', b'frames 00', b'frame 00 1', b'seconds', b'seconds -1', b'seconds 4294967296', b'registers ', b'registers 1', b'Registers',
          b'history', b'history 0', b'history 65537', b'history 1 1', b'list 100', b'list 100 0', b'list 100 65537', b'list 10000 1', b'list  1', b'list g 1',
          b'memory 0', b'memory 0 0', b'memory 0 65537', b'memory 00000 1', b'memory -1 1', b'memory 1 1 1', b'memory 0x10 1', b'bytes', b'bytes 0', b'bytes 0 0', b'bytes 0 65537', b'bytes 10000 1', b'bytes 0 1 1', b'Bytes 0 1', b'bytes  0 1', b'shades 1', b'shades ', b'Shades', b'serial 1', b'serial\0', b'picture 1',
-         b'state 0', b'state\r', b'digest 0', b'digest ', b'Digest', b'restore', b'restore ', b'restore 0', b'restore 1048577', b'restore 4294967296', b'restore -1',
+         b'state 0', b'state\r', b'digest 0', b'digest ', b'Digest', b'position 1', b'position ', b'Position', b'restore', b'restore ', b'restore 0', b'restore 1048577', b'restore 4294967296', b'restore -1',
          b'restore x', b'restore 1 1', b'restore  1', b'Restore 1', b'restore 00000000001',
          b'power ', b'power 1', b'Power', b'keep', b'keep ', b'keep 1000', b'keep -1', b'keep 1 1', b'keep 00000000001', b'keep x', b'Keep 1', b'keep  1', b'back',
          b'back ', b'back 1000', b'back 4294967296', b'back 1 1', b'back  1', b'back 0x1', b'back +1', b'save', b'resume', b'quit', b' ', b'  ', b'\r', b'\0', b'\xff', b'\xc3\xa9', b'step \xd9\xa1', b'x' * 128, b'x' * 129, b'x' * 512, b'x' * 513,
@@ -494,12 +503,12 @@ def a_line(rnd, most, seen):
     if choice < 15: return 'until-write %s %s' % (count(most), spanned())
     if choice < 17: return 'until-read %s %s' % (count(most), spanned())
     if choice < 20: return '%s %s' % (rnd.choice(['keep', 'back']), rnd.choice(['0', '0', '1', '00001', '999', '%d' % rnd.randrange(1000)]))
-    if choice == 20: return rnd.choice(['power', 'registers', 'digest'])
+    if choice == 20: return rnd.choice(['power', 'registers', 'position'])
     if choice == 21: return 'set %s %02X' % (place(), rnd.choice([0, 1, 0x0A, 0x81, 0xFF, rnd.randrange(256)]))
     if choice == 22: return 'set-register ' + register()
     if choice < 25: return ' '.join(['profile', count(most), *[banked() for _ in range(rnd.choice([0, 0, 1, 2, 16]))]])
     if choice < 29: return ' '.join(['continue', count(most), *[condition() for _ in range(rnd.choice([1, 1, 2, 3, 8]))]])
-    return rnd.choice(['registers', 'serial', 'digest', 'digest'] + ['picture', 'shades', 'state'] * (rnd.random() < 0.2))
+    return rnd.choice(['registers', 'serial', 'digest', 'position', 'position'] + ['picture', 'shades', 'state'] * (rnd.random() < 0.2))
 
 
 # what a `restore` may be given, and what a stream answers to it: None where it goes on
@@ -610,7 +619,7 @@ def check():
 
         name, rest = words[0], words[1:]
         try:
-            if name in (b'registers', b'serial', b'picture', b'shades', b'state', b'digest', b'power') and not rest: return (name.decode(),)
+            if name in (b'registers', b'serial', b'picture', b'shades', b'state', b'digest', b'position', b'power') and not rest: return (name.decode(),)
             if name == b'step' and len(rest) == 1: return 'step', number(rest[0], 1, 2 ** 32 - 1)
             if name == b'history' and len(rest) == 1: return 'history', number(rest[0], 1, 2 ** 16)
             if name in (b'list', b'memory', b'bytes') and len(rest) == 2: return name.decode(), hexes(rest[0], 1, 4), number(rest[1], 1, 2 ** 16)
