@@ -14,8 +14,8 @@ README, MANUAL, COMPLETION, MAKE = 'README.md', 'docs/COMMANDS.md', 'completions
 PLAYERS, TESTERS = 'docs/PLAYING.md', 'docs/TESTING_ROMS.md'
 ORDERS, STREAM_ORDERS, PROMPT = 'crates/debugging/specs/Orders.antt', 'crates/streaming/specs/Orders.antt', 'python/gbkeep/debug.py'
 LOOKS = 'crates/machine_lines/specs/Looks.antt'
-# lines whose answers are bytes for a program, and which no person types
-RAW = {'bytes', 'shades'}
+# lines that are no lines of the prompt: bytes for a program, and a time of which the prompt, which goes back, knows more
+RAW = {'bytes', 'position', 'shades'}
 WORDS, ARCHITECTURE = 'crates/command_line/src/words.rt', 'docs/ARCHITECTURE.md'
 # the library, where it is built
 BUILT = [Path('bin', name) for name in ('libgbkeep.so', 'libgbkeep.a', 'gbkeep.h', 'gbkeep.pc')]
