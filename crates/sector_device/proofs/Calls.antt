@@ -26,13 +26,13 @@ module _ {E : Type 0} (m : MemoryState) where
           then (if not fused && not fails then with_record (Write at bytes (not fused && (not fails || keeps))) (call_counted m) else failed (with_record (Write at bytes (not fused && (not fails || keeps))) (call_counted m)))
           else failed (call_counted m))) r
       go fused fails keeps false (Ok u) e = absurd (no_room (not fused && not fails) e)
-      go fused fails keeps false (Err x) e = no_write (Unit {0}) tt m.at_start m.recorded m.faults (failed m).faults at bytes x
+      go fused fails keeps false (Err x) e = no_write (Unit {0}) tt m.at_start m.recorded m.faults (failed m).faults m.set at bytes x
       go true fails keeps true (Ok u) e = absurd (cc)
-      go true fails keeps true (Err x) e = lost_write (Unit {0}) tt m.at_start m.recorded m.faults (failed m).faults at bytes x
-      go false false keeps true r e = wrote (Unit {0}) tt m.at_start m.recorded m.faults m.faults at bytes r
-      go false true true true r e = wrote (Unit {0}) tt m.at_start m.recorded m.faults (failed m).faults at bytes r
+      go true fails keeps true (Err x) e = lost_write (Unit {0}) tt m.at_start m.recorded m.faults (failed m).faults m.set at bytes x
+      go false false keeps true r e = wrote (Unit {0}) tt m.at_start m.recorded m.faults m.faults m.set at bytes r
+      go false true true true r e = wrote (Unit {0}) tt m.at_start m.recorded m.faults (failed m).faults m.set at bytes r
       go false true false true (Ok u) e = absurd (cc)
-      go false true false true (Err x) e = lost_write (Unit {0}) tt m.at_start m.recorded m.faults (failed m).faults at bytes x
+      go false true false true (Err x) e = lost_write (Unit {0}) tt m.at_start m.recorded m.faults (failed m).faults m.set at bytes x
 
   -- a sync
   pub sync_meets : (r : Result Unit E) → is_ok r ≡ (passes m && has_room m) → HasSynced (memory_disk m) (memory_disk (sync_called m)) r
@@ -42,11 +42,11 @@ module _ {E : Type 0} (m : MemoryState) where
           → HasSynced (memory_disk m) (memory_disk (
           if room then (if p then with_record (Sync p) (call_counted m) else failed (with_record (Sync p) (call_counted m))) else failed (call_counted m))) r
       go p false (Ok u) e = absurd (no_room p e)
-      go p false (Err x) e = no_sync (Unit {0}) tt m.at_start m.recorded m.faults (failed m).faults x
-      go true true (Ok u) e = synced (Unit {0}) tt m.at_start m.recorded m.faults m.faults (Ok u) tt
+      go p false (Err x) e = no_sync (Unit {0}) tt m.at_start m.recorded m.faults (failed m).faults m.set x
+      go true true (Ok u) e = synced (Unit {0}) tt m.at_start m.recorded m.faults m.faults m.set (Ok u) tt
       go true true (Err x) e = absurd (cc)
       go false true (Ok u) e = absurd (cc)
-      go false true (Err x) e = lost_sync (Unit {0}) tt m.at_start m.recorded m.faults (failed m).faults x
+      go false true (Err x) e = lost_sync (Unit {0}) tt m.at_start m.recorded m.faults (failed m).faults m.set x
 
 -- what stood at the start stays
 pub start_of_done : (p : Bool) (call : Recorded) (m : MemoryState) → (done_or_failed p call m).at_start ≡ m.at_start

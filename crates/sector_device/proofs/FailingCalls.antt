@@ -4,9 +4,9 @@ use Rattle.std.specs.Prelude.{◌&&◌, ◌++◌, ◌==◌, not, nat_lt, Some, N
 use Rattle.std.proofs.lemmas.Bool.{lt-ltb}
 use Rattle.std.proofs.lemmas.Bool.Decides.{nat_tests}
 use Rattle.std.proofs.Common.{length-append}
-use Rattle.sector_device.specs.Memory.{MemoryState, passes, has_room, call_counted, fuse_after, called}
+use Rattle.sector_device.specs.Memory.{MemoryState, fused, passes, has_room, call_counted, fuse_after, called}
 use Rattle.sector_device.specs.declared.recorded.Recorded.{Recorded}
-use Rattle.sector_device.specs.FailingCalls.{Call, ReadCall, WriteCall, SyncCall, is_passed, left_by, answers, HasRoomFor, fused, failing_at, FuseLetsSoManyPass, OnlyThatCallFails}
+use Rattle.sector_device.specs.FailingCalls.{Call, ReadCall, WriteCall, SyncCall, is_passed, left_by, answers, HasRoomFor, failing_at, FuseLetsSoManyPass, OnlyThatCallFails}
 
 -- ---- what a call leaves of the fuse, of the failing call and of the room
 

@@ -1,5 +1,5 @@
 -- What a device leaves to the layers above that has handed out some of its calls.
-use Rattle.std.proofs.Common.{◌≡◌, ◌∙◌, sym, ap, List, ℕ}
+use Rattle.std.proofs.Common.{◌∙◌, sym}
 use Rattle.sector_device.specs.DiskState.{DiskState, Settled, HasHanded}
 
 pub settled_still : {old now : DiskState} → HasHanded old now → Settled old → Settled now

@@ -2,9 +2,10 @@
 use Rattle.std.proofs.Common.{◌≡◌, inl, inr, ⊎_elim, ℕ, ◌+◌, List, [], ◌∷◌, ◌++◌, length, set, Bool, true, false, refl, sym, ap, ◌∙◌, subst, arith, Result, Ok, Err, OnOk, OnErr}
 use Rattle.std.proofs.lemmas.Bool.{cases_lt}
 use Rattle.std.proofs.lemmas.List.{take-append-le, take_all, length_push}
-use Rattle.sector_device.specs.DiskState.{DiskState, NoLostImage, Replaces, MayBeReplaced, Settled, KeepsHonesty, HasWritten, HasSynced, sector_at}
+use Rattle.sector_device.specs.DiskState.{DiskState, NoLostImage, Replaces, MayBeReplaced, Settled, KeepsHonesty, HasWritten, HasSynced}
 use Rattle.sector_device.specs.Records.{Replayed, after, after_all, replayed, cut, IsCutOf, recorded_disk, reads_after}
 use Rattle.sector_device.specs.RecordLaws.{within}
+use Rattle.sector_device.specs.declared.fuse.Fuse.{Fuse}
 use Rattle.sector_device.specs.declared.recorded.Recorded.{Recorded}
 use Rattle.sector_device.specs.declared.recorded.Recorded.TheVariants.{Write, Sync}
 use Rattle.sector_device.proofs.Cut.{cut_push, cut_keep}
@@ -16,15 +17,15 @@ after_all_push d (c ∷ calls) call = after_all_push (after d c) calls call
 pub replayed_push : (at_start : List (List ℕ)) (calls : List Recorded) (call : Recorded) → replayed at_start (calls ++ call ∷ []) ≡ after (replayed at_start calls) call
 replayed_push at_start calls call = after_all_push _ calls call
 
-module _ (H : Type 0) (honest : H) (at_start : List (List ℕ)) (calls : List Recorded) (f f' : ℕ) where
+module _ (H : Type 0) (honest : H) (at_start : List (List ℕ)) (calls : List Recorded) (f f' : ℕ) (fuse : Fuse) where
   abbrev was : DiskState
-  was = recorded_disk H at_start calls f
+  was = recorded_disk H at_start calls f fuse
 
   abbrev d : Replayed
   d = replayed at_start calls
 
   abbrev now : Recorded → DiskState
-  now call = recorded_disk H at_start (calls ++ call ∷ []) f'
+  now call = recorded_disk H at_start (calls ++ call ∷ []) f' fuse
 
   goes : (call : Recorded) → KeepsHonesty was (now call)
   goes call = record {
@@ -116,7 +117,7 @@ module _ (H : Type 0) (honest : H) (at_start : List (List ℕ)) (calls : List Re
 
   -- a call that is not recorded
   abbrev same : DiskState
-  same = recorded_disk H at_start calls f'
+  same = recorded_disk H at_start calls f' fuse
 
   stays : KeepsHonesty was same
   stays = record {

@@ -1,5 +1,5 @@
 -- How a run of device calls goes on, one lemma for each call.
-use Rattle.std.proofs.Common.{◌≡◌, ◌↔◌, ◌++◌, append-nil, append_assoc, inl, inr, ⊎_elim, ℕ, ◌≤◌, ◌<◌, ◌+◌, List, [], length, set, refl, sym, ap, ◌∙◌, subst, arith, length-set, Result, Ok, Err, OnOk, IsOk, IsErr, ◌-◌}
+use Rattle.std.proofs.Common.{◌≡◌, ◌↔◌, ◌++◌, append-nil, append_assoc, inl, inr, ⊎_elim, ℕ, ◌≤◌, ◌<◌, ◌+◌, List, [], length, set, refl, sym, ap, ◌∙◌, subst, arith, length-set, Result, Ok, Err, OnOk, IsOk, IsErr}
 use Rattle.std.proofs.lemmas.Bool.{cases_eq, cases_lt}
 use Rattle.std.proofs.lemmas.List.{get_or-set_same, get_or-set_other, ext_get_or}
 use Rattle.sector_device.specs.DiskState.{DiskState, Settled, Throughout, Remembers, KeepsHonesty, CountsFaults, HasCalled, HasRead, HasWritten, HasSynced, Follows, next_count, sector_at}
@@ -124,17 +124,18 @@ pub record AllWell (start now : DiskState) : Type 0 where
   pub honest : now.honest ↔ start.honest
   pub follows : Follows start.calls now.calls
   pub handed : now.handed ≡ start.handed
+  pub fuse : now.fuse ≡ start.fuse
 
 -- before the first
 pub none_called : {start : DiskState} → AllWell start start
-none_called = record { count = refl; faults = refl; honest = (λ is. is, λ was. was); follows = follows_none; handed = refl }
+none_called = record { count = refl; faults = refl; honest = (λ is. is, λ was. was); follows = follows_none; handed = refl; fuse = refl }
 
 pub one_more : {T E : Type 0} {v : T} {start mid now : DiskState} → AllWell start mid → HasCalled {T = T} {E = E} mid now (Ok v) → AllWell start now
-one_more w called = record { count = called.count ∙ w.count; faults = called.faults.ok ∙ w.faults; honest = both_then called.honest w.honest; follows = follows_then w.follows called.follows; handed = called.handed ∙ w.handed }
+one_more w called = record { count = called.count ∙ w.count; faults = called.faults.ok ∙ w.faults; honest = both_then called.honest w.honest; follows = follows_then w.follows called.follows; handed = called.handed ∙ w.handed; fuse = called.fuse ∙ w.fuse }
 
 -- the run ends there
 pub all_called : {T E : Type 0} {v : T} {start now : DiskState} → AllWell start now → HasCalled {T = T} {E = E} start now (Ok v)
-all_called w = record { count = w.count; honest = w.honest; faults = record { ok = w.faults; err = tt }; follows = w.follows; handed = w.handed }
+all_called w = record { count = w.count; honest = w.honest; faults = record { ok = w.faults; err = tt }; follows = w.follows; handed = w.handed; fuse = w.fuse }
 
 -- or at the call that failed
 count_failed : {T E : Type 0} {old now : ℕ} (r : Result T E) → IsErr r → now ≡ next_count old → CountsFaults old now r
@@ -144,7 +145,7 @@ count_failed (Err e) failed is = record { ok = tt; err = is }
 pub failed_then : {S T E F : Type 0} {e : F} {r : Result T E} {start mid now : DiskState}
     → AllWell start mid → HasCalled {T = S} {E = F} mid now (Err e) → IsErr r → HasCalled {T = T} {E = E} start now r
 failed_then {S} {T} {E} {F} {e} {r} w called failed =
-    record { count = called.count ∙ w.count; honest = both_then called.honest w.honest; faults = count_failed r failed (called.faults.err ∙ ap next_count w.faults); follows = follows_then w.follows called.follows; handed = called.handed ∙ w.handed }
+    record { count = called.count ∙ w.count; honest = both_then called.honest w.honest; faults = count_failed r failed (called.faults.err ∙ ap next_count w.faults); follows = follows_then w.follows called.follows; handed = called.handed ∙ w.handed; fuse = called.fuse ∙ w.fuse }
 
 -- ---- of a result that is known later
 

@@ -2,6 +2,7 @@
 -- most, for each image, that image with the sector replaced; a successful sync leaves the one image that reads give; a
 -- fault leaves old or new.
 use Rattle.std.specs.Prelude.{◌<◌, ◌≡◌, ◌↔◌, ◌⊎◌, ◌+◌, ◌-◌, ◌^◌, ◌++◌, min, ℕ, ◌≤◌, List, [], length, slice_index_or, slice_set, Result, OnOk, OnErr, IfErr, IsErr}
+use Rattle.sector_device.specs.declared.fuse.Fuse.{Fuse}
 use Rattle.sector_device.specs.declared.recorded.Recorded.{Recorded}
 
 abbrev pub sector_at : List (List ℕ) → ℕ → List ℕ
@@ -25,6 +26,12 @@ pub record DiskState : Type 1 where
   pub calls : List Recorded
   -- how many of them were handed out, where somebody else makes them
   pub handed : ℕ
+  -- the fuse that was set last, which no call changes
+  pub fuse : Fuse
+
+-- the fuse of a device that has none: it lets pass as many calls as can be counted
+abbrev pub no_fuse : Fuse
+no_fuse = record { lets = 2 ^ 64 - 1; asked = 0; faults = 0 }
 
 -- so many sectors of 512 bytes
 pub record IsSized (count : ℕ) (image : List (List ℕ)) : Type 0 where
@@ -113,6 +120,8 @@ pub record HasCalled {T E : Type 0} (old now : DiskState) (result : Result T E) 
   -- what was asked for stays, and nothing of it is handed out
   pub follows : Follows old.calls now.calls
   pub handed : now.handed ≡ old.handed
+  -- its fuse stays as it was set
+  pub fuse : now.fuse ≡ old.fuse
 
 -- The same of a call of a layer above: its error may have another cause than a failed call, and `faults_after` says what count of
 -- faults each error leaves.
@@ -128,6 +137,8 @@ pub record HasAnswered {T E : Type 0} (faults_after : E → ℕ → ℕ) (old no
   -- what was asked for stays, and nothing of it is handed out
   pub follows : Follows old.calls now.calls
   pub handed : now.handed ≡ old.handed
+  -- its fuse stays as it was set
+  pub fuse : now.fuse ≡ old.fuse
 
 -- for a run of calls: no fault is forgotten, and an error has one as its cause, or the count stands at the greatest `u64`
 pub record HasCause {T E : Type 0} (old new : ℕ) (result : Result T E) : Type 0 where
@@ -144,3 +155,4 @@ pub record HasHanded (old now : DiskState) : Type 0 where
   pub since : (t : ℕ) (c : List (List ℕ)) → now.since t c ↔ old.since t c
   pub faults : now.faults ≡ old.faults
   pub calls : now.calls ≡ old.calls
+  pub fuse : now.fuse ≡ old.fuse

@@ -1,6 +1,6 @@
 -- Which calls of a device in memory fail, which a public function states.
-use Rattle.std.specs.Prelude.{◌≡◌, ℕ, ◌+◌, ◌≤◌, ◌<◌, ◌&&◌, ◌==◌, not, nat_lt, Bool, false, List, [], ◌∷◌, Some, None, length, slice_index_or}
-use Rattle.sector_device.specs.Memory.{MemoryState, passes, has_room, read_called, write_called, sync_called}
+use Rattle.std.specs.Prelude.{◌≡◌, ℕ, ◌+◌, ◌≤◌, ◌<◌, ◌&&◌, ◌==◌, not, nat_lt, Bool, false, List, [], ◌∷◌, None, length, slice_index_or}
+use Rattle.sector_device.specs.Memory.{MemoryState, fused, passes, has_room, read_called, write_called, sync_called}
 
 pub data Call : Type 0 where
   ReadCall : Call
@@ -27,10 +27,7 @@ answers (call ∷ calls) m = is_passed call m ∷ answers calls (left_by call m)
 abbrev pub HasRoomFor : List Call → MemoryState → Type 0
 HasRoomFor calls m = length m.recorded + length calls ≤ m.room
 
--- what the public calls `fuse` and `fail_at` leave
-abbrev pub fused : (k : ℕ) → MemoryState → MemoryState
-fused k m = record m { fuse = Some k; blown = false }
-
+-- what the public call `fail_at` leaves
 abbrev pub failing_at : (k : ℕ) → (kept : Bool) → MemoryState → MemoryState
 failing_at k kept m = record m { fails_in = k; keeps = kept }
 

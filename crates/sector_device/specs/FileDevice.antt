@@ -4,14 +4,14 @@
 -- or written, so within its life it returns what was written; and its images are the sectors of the last successful sync
 -- with any subset of the later writes.
 use Rattle.std.specs.Prelude.{◌≡◌, ℕ, ◌↔◌, ◌%◌, ◌*◌, ◌≤◌, List}
-use Rattle.sector_device.specs.DiskState.{DiskState}
+use Rattle.sector_device.specs.DiskState.{DiskState, no_fuse}
 use Rattle.sector_device.specs.Records.{recorded_disk}
 use Rattle.sector_device.specs.declared.file.FileDevice.{FileDevice}
 use Rattle.sector_device.specs.declared.device.DeviceFault.{DeviceFault}
 use Rattle.sector_device.specs.declared.device.DeviceFault.TheVariants.{Device, SizeNotSectors}
 
 abbrev pub file_disk : FileDevice → DiskState
-file_disk d = recorded_disk (d.history.found ≡ d.history.held) d.history.found d.history.calls d.faults
+file_disk d = recorded_disk (d.history.found ≡ d.history.held) d.history.found d.history.calls d.faults no_fuse
 
 -- it was just opened: no call yet and no fault, and it is honest exactly if reads give this content
 pub record IsOpened (content : List (List ℕ)) (d : FileDevice) : Type 0 where

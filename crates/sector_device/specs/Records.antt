@@ -1,6 +1,7 @@
 -- What a record of writes and syncs makes of a device, and the images that a stop may leave.
 use Rattle.std.specs.Prelude.{◌≡◌, ◌≤◌, ◌<◌, ◌++◌, ◌&&◌, ◌==◌, ℕ, List, [], ◌∷◌, length, take, slice_set, slice_index_or, ◌+◌, Bool, true, false, nat_lt, if◌then◌else◌}
 use Rattle.sector_device.specs.DiskState.{DiskState}
+use Rattle.sector_device.specs.declared.fuse.Fuse.{Fuse}
 use Rattle.sector_device.specs.declared.recorded.Recorded.{Recorded}
 use Rattle.sector_device.specs.declared.recorded.Recorded.TheVariants.{Write, Sync}
 
@@ -43,8 +44,8 @@ abbrev pub IsImageSince : List (List ℕ) → List Recorded → ℕ → List (Li
 IsImageSince at_start calls t image = (k : ℕ) × (t ≤ k) × (k ≤ length calls) × IsCutOf (replayed at_start (take k calls)) image
 
 -- the disk of a device that keeps such a record: the moment is the number of calls in it
-abbrev pub recorded_disk : Type 0 → List (List ℕ) → List Recorded → ℕ → DiskState
-recorded_disk honest at_start calls faults = record {
+abbrev pub recorded_disk : Type 0 → List (List ℕ) → List Recorded → ℕ → Fuse → DiskState
+recorded_disk honest at_start calls faults fuse = record {
   sectors = (replayed at_start calls).reads;
   honest = honest;
   image = IsCutOf (replayed at_start calls);
@@ -53,6 +54,7 @@ recorded_disk honest at_start calls faults = record {
   faults = faults;
   calls = calls;
   handed = 0;
+  fuse = fuse;
 }
 
 abbrev pub is_sector : List ℕ → Bool

@@ -17,8 +17,8 @@ pub enum DeviceFault {
 /// A device of sectors of 512 bytes. What it promises of its contents it promises where it is honest: no call makes an
 /// honest device dishonest or the reverse.
 pub trait SectorDevice {
-    /// What reads give, whether it is honest, its images now and since a moment, its count of failed calls, and the writes and syncs that it was
-    /// asked for.
+    /// What reads give, whether it is honest, its images now and since a moment, its count of failed calls, the writes and syncs that it was
+    /// asked for, and its fuse.
     ghost disk: { Self → DiskState };
 
     /// The number of sectors, which no call changes, honest or not.

@@ -4,6 +4,7 @@
 mod device;
 mod file;
 mod file_record;
+mod fuse;
 mod handing;
 mod laws;
 mod memory;

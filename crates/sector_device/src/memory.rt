@@ -1,11 +1,12 @@
 //! A device in memory that records its writes and syncs, and can be made to fail.
-ghost use Rattle.std.specs.Prelude.{◌≡◌, ◌≤◌, ◌<◌, ◌+◌, ◌^◌, ◌++◌, ◌∷◌, ◌&&◌, [], IsTrue, false, List, ℕ, length, IfOk, IfErr, Some, None, is_ok, is_some, replicate, vec_len, vec_capacity};
-ghost use Rattle.sector_device.specs.DiskState.{HasCalled, HasRead, HasWritten, HasSynced, sector_at};
+ghost use Rattle.std.specs.Prelude.{◌≡◌, ◌≤◌, ◌<◌, ◌+◌, ◌^◌, ◌++◌, ◌∷◌, ◌&&◌, [], IsTrue, false, List, ℕ, length, IfOk, IfErr, Some, None, if◌then◌else◌, is_ok, is_some, replicate, vec_len, vec_capacity};
+ghost use Rattle.sector_device.specs.DiskState.{HasCalled, HasRead, HasWritten, HasSynced, sector_at, next_count};
 ghost use Rattle.sector_device.specs.Records.{replayed, cut, are_sectors, are_recordable, is_recordable};
-ghost use Rattle.sector_device.specs.Memory.{memory_disk, image_of, fuse_fails, fuse_after, passes, keeps_write, has_room, call_counted, failed, with_record, done_or_failed, read_called, write_called, sync_called};
+ghost use Rattle.sector_device.specs.Memory.{IsCounted, memory_disk, image_of, fused, fuse_fails, fuse_after, passes, keeps_write, has_room, call_counted, failed, with_record, recorded_or_failed, read_called, write_called, sync_called};
 ghost use Rattle.sector_device.specs.RecordLaws.{only_last, counts_last, reads_image, images_sized, reads_fit};
 
 use crate::device::{DeviceFault, SectorDevice};
+use crate::fuse::Fuse;
 use crate::recorded::Recorded;
 use crate::replay::{cut_at, zero_sectors};
 use std::alloc::{AllocError, Global};
@@ -31,6 +32,10 @@ pub struct MemoryDevice {
     /// How many calls still pass.
     fuse: Option<u64>,
     blown: bool,
+    /// The fuse as it was set.
+    set: Fuse,
+    /// How many calls it was asked for since it was made, up to the greatest `u64`.
+    asked: u64,
     /// Which call from now on fails, 0 for none, and whether its write is kept.
     fails_in: u64,
     keeps: bool,
@@ -40,6 +45,7 @@ pub struct MemoryDevice {
     ghost few: { length at_start.items < 2 ^ 64 },
     ghost start_sized: { IsTrue (are_sectors at_start.items) },
     ghost faults_fit: { faults < 2 ^ 64 },
+    ghost counted: { IsCounted set fuse blown asked faults },
     ghost recordable: { IsTrue (are_recordable (length at_start.items) recorded.items) },
 }
 
@@ -70,6 +76,12 @@ impl MemoryDevice {
             recorded: Vec::with_capacity(alloc, calls)?,
             fuse: None,
             blown: false,
+            set: Fuse {
+                lets: u64::MAX,
+                asked: 0,
+                faults: 0,
+            },
+            asked: 0,
             fails_in: 0,
             keeps: false,
             faults,
@@ -89,21 +101,35 @@ impl MemoryDevice {
         MemoryDevice::holding(alloc, sectors, self.recorded.capacity(), self.faults)
     }
 
-    /// Counts a call: the fuse comes first, then the call that is to fail.
+    /// Counts a call, and a failed one if it does not pass: the fuse comes first, then the call that is to fail.
     fn count_call(&mut self) -> Outcome
         ensures passes { result.passes ≡ passes (memory self.old) }
         ensures kept { result.kept ≡ keeps_write (memory self.old) }
-        ensures state { memory self.new ≡ call_counted (memory self.old) }
+        ensures state { memory self.new ≡ read_called (memory self.old) }
         ensures sectors { self.new.sectors ≡ self.old.sectors }
     {
         let fused = self.is_fuse_out();
         let fails = self.fails_in == 1;
+        let passes = !fused && !fails;
         self.blown = self.blown || fused;
         self.fuse = MemoryDevice::burnt(self.fuse);
         self.fails_in = self.fails_in.saturating_sub(1);
+        self.asked = self.asked.saturating_add(1);
+        self.faults = MemoryDevice::faults_after(self.faults, passes);
         Outcome {
-            passes: !fused && !fails,
+            passes,
             kept: !fused && (!fails || self.keeps),
+        }
+    }
+
+    /// The count of faults after a call that passes, or fails.
+    fn faults_after(faults: u64, passes: bool) -> u64
+        ensures { result ≡ (if passes then faults else next_count faults) }
+    {
+        if passes {
+            faults
+        } else {
+            faults.saturating_add(1)
         }
     }
 
@@ -157,7 +183,6 @@ impl MemoryDevice {
             buffer.new ≡ sector_at (replayed self.old.at_start.items self.old.recorded.items).reads at }
     {
         if !self.count_call().passes {
-            self.fail();
             return false;
         }
         *buffer = self.sectors[at as usize];
@@ -188,21 +213,20 @@ impl MemoryDevice {
         self.do_recorded(Recorded::Sync { done }, done)
     }
 
-    /// Records a call if there is room, and counts it as failed if there is none or it does not pass.
+    /// Records a call that was counted, if there is room; counts it as failed if there is none and it passed.
     fn do_recorded(&mut self, call: Recorded, passes: bool) -> bool
         requires { IsTrue (is_recordable (length self.old.at_start.items) call) }
-        ensures state { memory self.new ≡ done_or_failed passes call (memory self.old) }
+        ensures state { memory self.new ≡ recorded_or_failed passes call (memory self.old) }
         ensures passes { result ≡ (passes && has_room (memory self.old)) }
     {
-        if self.recorded.len() == self.recorded.capacity() {
-            self.fail();
-            return false;
+        if self.recorded.len() < self.recorded.capacity() {
+            self.record(call);
+            return passes;
         }
-        self.record(call);
-        if !passes {
+        if passes {
             self.fail();
         }
-        passes
+        false
     }
 
     /// How many places of the record are used.
@@ -212,12 +236,24 @@ impl MemoryDevice {
         self.recorded.len()
     }
 
+    /// How many calls it was asked for since it was made: reads, writes and syncs, whether they passed or not, up to the greatest `u64`.
+    pub fn asked(&self) -> u64
+        ensures { result ≡ (memory self.now).asked }
+    {
+        self.asked
+    }
+
     /// From now on `k` calls pass, and then every call fails. It replaces an earlier fuse.
     pub fn fuse(&mut self, k: u64)
-        ensures { memory self.new ≡ record (memory self.old) { fuse = Some k; blown = false } }
+        ensures { memory self.new ≡ fused k (memory self.old) }
     {
         self.fuse = Some(k);
         self.blown = false;
+        self.set = Fuse {
+            lets: k,
+            asked: self.asked,
+            faults: self.faults,
+        };
     }
 
     /// Whether this fuse has failed a call.

@@ -70,6 +70,7 @@ returns-in-Err-clause-answered g c = record {
       ∙ ap (λ fault. faults_after fault (g.D.SectorDevice.disk (device_under c.args.opened)).faults) (sym c.fault_of.ensures);
   follows = c.in-Err.ensures.answered.follows;
   handed = c.in-Err.ensures.answered.handed;
+  fuse = c.in-Err.ensures.answered.fuse;
 }
 
 pub returns-in-Ok-clause-begun : goal.returns-in-Ok-clause-begun
@@ -102,6 +103,7 @@ returns-in-Ok-clause-answered g c =
       faults = tt;
       follows = subst (λ d. Follows (disk (device_under c.args.opened)).calls (disk d).calls) (sym device) answered.follows;
       handed = ap (λ d. (disk d).handed) device ∙ answered.handed;
+      fuse = ap (λ d. (disk d).fuse) device ∙ answered.fuse;
     }
 
 pub returns-in-Err-clause-untouched : goal.returns-in-Err-clause-untouched

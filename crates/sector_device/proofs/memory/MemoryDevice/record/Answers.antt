@@ -24,6 +24,7 @@ invariant_of-self c =
       few = self.few;
       start_sized = self.start_sized;
       faults_fit = self.faults_fit;
+      counted = self.counted;
       recordable = subst (λ (l : List Recorded). IsTrue (are_recordable (length self.at_start.items) l)) (sym c.push_reserved.ensures.items) (recordable_push (length self.at_start.items) self.recorded.items c.args.call self.recordable c.requires.recordable);
     }
 
@@ -38,6 +39,7 @@ invariant_of-self-else-kept c =
       few = self.few;
       start_sized = self.start_sized;
       faults_fit = self.faults_fit;
+      counted = self.counted;
       recordable = subst (λ (l : List Recorded). IsTrue (are_recordable (length self.at_start.items) l)) (sym c.push_reserved.ensures.items) (recordable_push (length self.at_start.items) self.recorded.items c.args.call self.recordable c.requires.recordable);
     }
 
@@ -52,5 +54,6 @@ invariant_of-self-in_default c =
       few = self.few;
       start_sized = self.start_sized;
       faults_fit = self.faults_fit;
+      counted = self.counted;
       recordable = subst (λ (l : List Recorded). IsTrue (are_recordable (length self.at_start.items) l)) (sym c.push_reserved.ensures.items) (recordable_push (length self.at_start.items) self.recorded.items c.args.call self.recordable c.requires.recordable);
     }

@@ -18,7 +18,7 @@ count c =
     (ap (λ (m : MemoryState). m.at_start) c.sync_all.ensures.state ∙ start_of_done (passes (memory old)) (Sync (passes (memory old))) (call_counted (memory old)))
 
 pub returns-then-sync_all-clause-called : goal.returns-then-sync_all-clause-called
-returns-then-sync_all-clause-called c = record { count = count (goal.at.returns-then-sync_all-clause-called c).After-sync_all; honest = search rules; faults = search rules; follows = search rules; handed = refl }
+returns-then-sync_all-clause-called c = record { count = count (goal.at.returns-then-sync_all-clause-called c).After-sync_all; honest = search rules; faults = search rules; follows = search rules; handed = refl; fuse = search rules }
 
 pub returns-then-sync_all-clause-synced : goal.returns-then-sync_all-clause-synced
 returns-then-sync_all-clause-synced c = λ _.
@@ -27,7 +27,7 @@ returns-then-sync_all-clause-synced c = λ _.
     (sync_meets old (Ok tt) (sym c.if-sync_all.true ∙ c.sync_all.ensures.passes))
 
 pub returns-else-sync_all-clause-called : goal.returns-else-sync_all-clause-called
-returns-else-sync_all-clause-called c = record { count = count (goal.at.returns-else-sync_all-clause-called c).After-sync_all; honest = search rules; faults = search rules; follows = search rules; handed = refl }
+returns-else-sync_all-clause-called c = record { count = count (goal.at.returns-else-sync_all-clause-called c).After-sync_all; honest = search rules; faults = search rules; follows = search rules; handed = refl; fuse = search rules }
 
 pub returns-else-sync_all-clause-synced : goal.returns-else-sync_all-clause-synced
 returns-else-sync_all-clause-synced c = λ _.

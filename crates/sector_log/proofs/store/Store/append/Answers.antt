@@ -163,6 +163,7 @@ returns-clause-answered g c = record {
   faults = search rules;
   follows = follows_then c.write_log.ensures.called.follows c.sync_once.ensures.called.follows;
   handed = search rules;
+  fuse = search rules;
 }
 
 pub invariant_of-self : goal.invariant_of-self
