@@ -2,7 +2,7 @@
 use Rattle.std.proofs.Common.{◌≡◌, ◌<◌, ℕ, Bool, true, false, List, [], ◌∷◌, ◌++◌, append_assoc, length, replicate, set, refl, sym, ap, ◌∙◌, subst, Result, Ok, Err, length-set, lt-ltb, eq-eqb}
 use Rattle.std.specs.Prelude.{IsTrue, ◌&&◌}
 use Rattle.std.proofs.lemmas.List.{map-append, length-replicate}
-use Rattle.sector_device.specs.DiskState.{DiskState, KeepsHonesty, HasWritten, HasSynced}
+use Rattle.sector_device.specs.DiskState.{DiskState, no_fuse, KeepsHonesty, HasWritten, HasSynced}
 use Rattle.sector_device.specs.Records.{replayed, recorded_disk, reads_after, is_sector, is_recordable, are_recordable}
 use Rattle.sector_device.specs.declared.recorded.Recorded.{Recorded}
 use Rattle.sector_device.specs.declared.recorded.Recorded.TheVariants as recorded
@@ -53,7 +53,7 @@ recordable_set sectors at bytes calls all = subst (λ (n : ℕ). IsTrue (are_rec
 -- ---- what the calls do
 
 abbrev disk_with : (count : ℕ) → List Recorded → (faults handed : ℕ) → DiskState
-disk_with count calls faults handed = record (recorded_disk (Unit {0}) (blank count) calls faults) { handed = handed }
+disk_with count calls faults handed = record (recorded_disk (Unit {0}) (blank count) calls faults no_fuse) { handed = handed }
 
 module _ {old new : DiskState} (n m : ℕ) where
   kept_with : KeepsHonesty old new → KeepsHonesty (record old { handed = n }) (record new { handed = m })
@@ -70,19 +70,19 @@ module _ {E : Type 0} (old new : HostDevice) (count : count_of new ≡ count_of 
   write_done at bytes calls =
       subst (λ (c : ℕ). HasWritten {E = E} at bytes (host_disk old) (disk_with c (calls_of new) new.faults (length (handed_of new))) (Ok tt)) (sym count)
       (subst (λ (l : List Recorded). HasWritten {E = E} at bytes (host_disk old) (disk_with (count_of old) l new.faults (length (handed_of new))) (Ok tt)) (sym calls)
-      (written_with (length (handed_of old)) (length (handed_of new)) (wrote (Unit {0}) tt (blank (count_of old)) (calls_of old) old.faults new.faults at bytes (Ok tt))))
+      (written_with (length (handed_of old)) (length (handed_of new)) (wrote (Unit {0}) tt (blank (count_of old)) (calls_of old) old.faults new.faults no_fuse at bytes (Ok tt))))
 
   pub write_failed : (at : ℕ) (bytes : List ℕ) (e : E) → calls_of new ≡ calls_of old → HasWritten {E = E} at bytes (host_disk old) (host_disk new) (Err e)
   write_failed at bytes e calls =
       subst (λ (c : ℕ). HasWritten {E = E} at bytes (host_disk old) (disk_with c (calls_of new) new.faults (length (handed_of new))) (Err e)) (sym count)
       (subst (λ (l : List Recorded). HasWritten {E = E} at bytes (host_disk old) (disk_with (count_of old) l new.faults (length (handed_of new))) (Err e)) (sym calls)
-      (written_with (length (handed_of old)) (length (handed_of new)) (no_write (Unit {0}) tt (blank (count_of old)) (calls_of old) old.faults new.faults at bytes e)))
+      (written_with (length (handed_of old)) (length (handed_of new)) (no_write (Unit {0}) tt (blank (count_of old)) (calls_of old) old.faults new.faults no_fuse at bytes e)))
 
   pub sync_done : calls_of new ≡ calls_of old ++ recorded.Sync true ∷ [] → HasSynced {E = E} (host_disk old) (host_disk new) (Ok tt)
   sync_done calls =
       subst (λ (c : ℕ). HasSynced {E = E} (host_disk old) (disk_with c (calls_of new) new.faults (length (handed_of new))) (Ok tt)) (sym count)
       (subst (λ (l : List Recorded). HasSynced {E = E} (host_disk old) (disk_with (count_of old) l new.faults (length (handed_of new))) (Ok tt)) (sym calls)
-      (synced_with (length (handed_of old)) (length (handed_of new)) (synced (Unit {0}) tt (blank (count_of old)) (calls_of old) old.faults new.faults (Ok tt) tt)))
+      (synced_with (length (handed_of old)) (length (handed_of new)) (synced (Unit {0}) tt (blank (count_of old)) (calls_of old) old.faults new.faults no_fuse (Ok tt) tt)))
 
 -- ---- a call that may be noted
 

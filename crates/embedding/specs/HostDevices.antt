@@ -1,6 +1,6 @@
 -- What public clauses see of a `HostDevice`.
 use Rattle.std.specs.Prelude.{◌≡◌, ◌++◌, ◌∷◌, [], ℕ, List, Option, Some, None, length}
-use Rattle.sector_device.specs.DiskState.{DiskState}
+use Rattle.sector_device.specs.DiskState.{DiskState, no_fuse}
 use Rattle.sector_device.specs.Records.{recorded_disk}
 use Rattle.sector_device.specs.declared.recorded.Recorded.{Recorded}
 use Rattle.embedding.specs.Calls.{blank, made, recorded_of}
@@ -25,7 +25,7 @@ count_of d = length d.sectors.items
 -- Its disk: sectors of zeros, after these calls. An image is what the last sync left, with any of the writes since; one since a moment is that of
 -- so many of the calls or more.
 abbrev pub host_disk : HostDevice → DiskState
-host_disk d = record (recorded_disk (Unit {0}) (blank (count_of d)) (calls_of d) d.faults) { handed = length (handed_of d) }
+host_disk d = record (recorded_disk (Unit {0}) (blank (count_of d)) (calls_of d) d.faults no_fuse) { handed = length (handed_of d) }
 
 -- the first of the calls that were waiting was handed out, and nothing else changed; or there was none
 abbrev pub HasHandedOut : HostDevice → Option Call → HostDevice → Type 0
