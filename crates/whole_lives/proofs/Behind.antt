@@ -4,11 +4,11 @@ use Rattle.std.proofs.Math.Seq.{take-suc}
 use Rattle.std.proofs.lemmas.List.{map-append}
 use Rattle.std.specs.Option.{option_map}
 use Rattle.machine.specs.Machine.{Input}
-use Rattle.sector_device.specs.Memory.{MemoryState, memory_disk}
+use Rattle.sector_device.specs.Memory.{MemoryState, fused, memory_disk}
 use Rattle.sector_device.specs.Records.{replayed, IsCutOf}
 use Rattle.sector_device.specs.declared.recorded.Recorded.{Recorded}
 use Rattle.whole_lives.specs.Lives.{Asking, Files, Played, IsRound, IsLife}
-use Rattle.whole_lives.specs.Devices.{Memories, AgreesWithEach, IsRecordedLeft, AreLeft, HasLived, LeavesLife, LeavesRound, AreRounds, IsCut, IsCutIfThere, IsCutRound, Obeying, Refusing, fused, with_fuses, texts_of, reports_of, wholes_of}
+use Rattle.whole_lives.specs.Devices.{Memories, AgreesWithEach, IsRecordedLeft, AreLeft, HasLived, LeavesLife, LeavesRound, AreRounds, IsCut, IsCutIfThere, IsCutRound, Obeying, Refusing, with_fuses, texts_of, reports_of, wholes_of}
 use Rattle.whole_lives.specs.declared.rounds.Round.{Round}
 use Rattle.whole_lives.specs.declared.rounds.RoundEnd.{RoundEnd}
 

@@ -1,9 +1,9 @@
 -- What a life leaves on its devices, and why one is refused.
-use Rattle.std.specs.Prelude.{◌≡◌, ◌⊎◌, ℕ, List, [], ◌∷◌, ◌++◌, length, map, take, slice_get, Bool, true, false, Option, Some, None, ⊤}
+use Rattle.std.specs.Prelude.{◌≡◌, ◌⊎◌, ◌≤◌, ◌<◌, ◌+◌, ◌-◌, ◌^◌, ℕ, List, [], ◌∷◌, ◌++◌, length, map, take, slice_get, Bool, true, false, Option, Some, None, ⊤}
 use Rattle.std.specs.Option.{option_map}
 use Rattle.machine.specs.Machine.{Input}
-use Rattle.sector_device.specs.DiskState.{next_count}
-use Rattle.sector_device.specs.Memory.{MemoryState, image_of, memory_disk}
+use Rattle.sector_device.specs.DiskState.{Follows, next_count}
+use Rattle.sector_device.specs.Memory.{MemoryState, fused, image_of, memory_disk}
 use Rattle.sector_device.specs.MemoryDevice.{memory}
 use Rattle.log_format.specs.Content.{content}
 use Rattle.sector_device.specs.declared.device.SectorDevice.{Ghosts}
@@ -151,11 +151,12 @@ CountsRefusal why old left = CountsCut true old left
 
 -- ---- a device behind a cut
 
--- no fuse, no failing call, and nothing recorded since
+-- no fuse, no failing call, and nothing asked for or recorded since
 pub record IsFresh (now : MemoryState) : Type 0 where
   pub fuse : now.fuse ≡ None
   pub blown : now.blown ≡ false
   pub fails_in : now.fails_in ≡ 0
+  pub asked : now.asked ≡ 0
   pub recorded : now.recorded ≡ []
 
 -- ---- rounds on devices
@@ -196,10 +197,35 @@ pub record IsPlayed (asks : Asking) (obeys : Obeying) (refuses : Refusing) (rom 
   pub counts : CountsCut whole old now
   pub blown : whole ≡ false → IsBlown now
 
--- a device whose fuse was set, and those of which a round sets them
-abbrev pub fused : (calls : ℕ) → MemoryState → MemoryState
-fused calls m = record m { fuse = Some calls; blown = false }
+-- ---- the calls under a fuse
 
+-- whatever was asked for, the fuse is the one that was set, and what was noted stays, in its order
+pub record KeepsFuse (old now : MemoryState) : Type 0 where
+  pub set : now.set ≡ old.set
+  pub follows : Follows old.recorded now.recorded
+
+abbrev pub KeepsFuseIfThere : (old now : Option MemoryState) → Type 0
+KeepsFuseIfThere None None = ⊤
+KeepsFuseIfThere (Some old) (Some now) = KeepsFuse old now
+KeepsFuseIfThere old now = ⊥
+
+pub record KeepFuses (old now : Memories) : Type 0 where
+  pub save : KeepsFuse old.save now.save
+  pub recording : KeepsFuseIfThere old.recording now.recording
+
+-- A device was asked for so many calls at most, reads, writes and syncs, and for as many more as failed; and where its fuse failed one, for one
+-- more at least.
+pub record HasBurnt (calls : ℕ) (old now : MemoryState) : Type 0 where
+  pub follows : Follows old.recorded now.recorded
+  pub most : now.faults < 2 ^ 64 - 1 → now.asked + old.faults ≤ old.asked + calls + now.faults
+  pub least : now.blown ≡ true → next_count (old.asked + calls) ≤ now.asked
+
+abbrev pub HasBurntIfThere : (calls : ℕ) → (old now : Option MemoryState) → Type 0
+HasBurntIfThere calls None None = ⊤
+HasBurntIfThere calls (Some old) (Some now) = HasBurnt calls old now
+HasBurntIfThere calls old now = ⊥
+
+-- the devices with the fuses of a round
 abbrev pub with_fuses : Round → Memories → Memories
 with_fuses round now = record { save = fused round.save_calls now.save; recording = option_map (fused round.recording_calls) now.recording }
 
@@ -214,10 +240,13 @@ IsCutIfThere kept None None = ⊤
 IsCutIfThere kept (Some old) (Some now) = IsCut kept old now
 IsCutIfThere kept old now = ⊥
 
--- The round was played on devices with exactly its fuses; the cut kept the chosen writes of what its calls led to, and no other.
+-- The round was played on devices with exactly its fuses, and ended where these say; the cut kept the chosen writes of what its calls led to,
+-- and no other.
 pub record IsCutRound (asks : Asking) (obeys : Obeying) (refuses : Refusing) (rom : List ℕ) (old : Memories) (round : Round) (now : Memories) (report : List ℕ) (whole : Bool) : Type 0 where
   pub played : Memories
   pub is_played : IsPlayed asks obeys refuses rom (with_fuses round old) played round.lines.items report whole
+  pub save_calls : HasBurnt round.save_calls old.save played.save
+  pub recording_calls : HasBurntIfThere round.recording_calls old.recording played.recording
   pub save : IsCut round.save_kept.items played.save now.save
   pub recording : IsCutIfThere round.recording_kept.items played.recording now.recording
 

@@ -1,8 +1,9 @@
 //! The devices that a game is kept on: their fuses, and what a cut leaves of them.
 ghost use Rattle.std.specs.Prelude.{◌≡◌, IfOk};
 ghost use Rattle.std.specs.Option.{option_map};
+ghost use Rattle.sector_device.specs.Memory.{fused};
 ghost use Rattle.sector_device.specs.MemoryDevice.{memory};
-ghost use Rattle.whole_lives.specs.Devices.{IsCut, IsCutIfThere, fused, memories};
+ghost use Rattle.whole_lives.specs.Devices.{IsCut, IsCutIfThere, memories};
 
 use sector_device::MemoryDevice;
 use std::alloc::{AllocError, Global};

@@ -74,8 +74,8 @@ pub fn live<P: Player>(
         (reports_of lived.ends.items ++ lived.report.items ∷ [])
         (wholes_of lived.ends.items ++ true ∷ []) (position_of lived.game)) }
     ensures begun { IfOk result (λ lived. IsTakenUp cartridge.now lived.game) }
-    // each round was played with exactly its fuses, its report is all that the player told, it was cut only where a call failed and a fuse is
-    // blown, and its cut kept the chosen writes
+    // each round was played with exactly its fuses, and made no more calls than they let pass but the one that failed; its report is all that
+    // the player told, it was cut only where a call failed and a fuse is blown, and its cut kept the chosen writes
     ensures rounds { IfOk result (λ lived.
         EndsRounds P.asks P.obeys P.refuses cartridge.now (memories devices) rounds.now (reports_of lived.ends.items)
         (wholes_of lived.ends.items) lived.report.items (memories_of lived.game)) }

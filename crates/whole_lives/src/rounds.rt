@@ -1,6 +1,6 @@
 //! One round of a life: a game taken up, played, and cut.
 ghost use Rattle.std.specs.Prelude.{◌≡◌, List, ℕ, Bool, true, false, IfOk, IfErr};
-ghost use Rattle.whole_lives.specs.Devices.{memories, EachStands, IsByNoFuse, IsCutRound, IsPlayed, IsSound, LeavesRound, RefusesPlay, RefusesRound};
+ghost use Rattle.whole_lives.specs.Devices.{memories, EachStands, IsByNoFuse, IsCutRound, IsPlayed, IsSound, KeepFuses, LeavesRound, RefusesPlay, RefusesRound};
 ghost use Rattle.whole_lives.specs.Rounds.{IsByFuse};
 
 use crate::devices::{Devices, cut};
@@ -71,6 +71,7 @@ fn play_until_cut<P: Player>(
 ) -> Result<(Devices, RoundEnd), LifeRefused>
     ensures played { IfOk result (λ r.
         IsPlayed P.asks P.obeys P.refuses cartridge.now (memories devices) (memories r.0) lines.now r.1.report.items r.1.whole) }
+    ensures fuses { IfOk result (λ r. KeepFuses (memories devices) (memories r.0)) }
     ensures refused { IfErr result (λ refused. (report : List ℕ) ×
         RefusesPlay P.refuses cartridge.now (memories devices) (memories refused.devices) lines.now report refused.why) }
     ensures fuse { IfErr result (λ refused. IsByNoFuse refused.why (memories refused.devices)) }

@@ -29,6 +29,7 @@ returns-in-Ok-clause-gives c =
       leaves = subst (λ (told : List ℕ). LeavesRound AskByLines rom (record { save = save; recording = None }) (record { save = now; recording = None }) c.args.lines.now told true) (sym report_is) (whole_in rom save now c.args.lines.now unread report by.streamed);
       said = record { unread = unread; all = subst (λ (told : List ℕ). HasStreamed rom (memory_disk save) (memory_disk now) Whole (Some c.args.lines.now) (Some unread) (Some []) (Some told)) (sym report_is) by.streamed };
       counts = (c.in-Ok.ensures.answered.faults_ok, refl);
+      fuses = record { save = record { set = c.in-Ok.ensures.answered.fuse; follows = c.in-Ok.ensures.answered.follows }; recording = tt };
       ends = λ agree. (_, ends_at rom save now c.args.lines.now (acknowledged_of session) (machine_of session) unread report by, refl);
     }
 
@@ -52,6 +53,7 @@ returns-in-Err-clause-stops c =
       leaves = part.leaves;
       whole = λ failed. part.whole (failed_alone refused.why failed) ∙ sym report_is;
       refused = record { cause = record { unread = unread; cause = subst (λ (told : List ℕ). IsStreamCause refused.why rom (memory_disk save) (memory_disk left) (Some c.args.lines.now) (Some unread) (Some []) (Some told)) (sym report_is) by }; counted = stream_counted save left refused.why c.in-Err.ensures.answered.faults };
+      fuses = record { save = record { set = c.in-Err.ensures.answered.fuse; follows = c.in-Err.ensures.answered.follows }; recording = tt };
     }
 
 pub returns-in-Err-clause-sound : goal.returns-in-Err-clause-sound

@@ -38,6 +38,10 @@ returns-in-Ok-clause-gives c =
         all = subst (λ (told : List ℕ). HasRecorded rom (memory_disk save) (memory_disk now) (memory_disk recording) (memory_disk now_recording) Whole (Some c.args.lines.now) (Some unread) (Some []) (Some told)) (sym report_is) by;
       };
       counts = (c.in-Ok.ensures.save_answered.faults_ok, c.in-Ok.ensures.recording_answered.faults_ok);
+      fuses = record {
+        save = record { set = c.in-Ok.ensures.save_answered.fuse; follows = c.in-Ok.ensures.save_answered.follows };
+        recording = record { set = c.in-Ok.ensures.recording_answered.fuse; follows = c.in-Ok.ensures.recording_answered.follows };
+      };
       ends = λ agree. (
         _,
         ends_at rom save recording now now_recording (c.in-Ok.ensures.agree tt tt) c.args.lines.now unread report (acknowledged_of game.session) (machine_of game.session) by
@@ -79,6 +83,10 @@ returns-in-Err-clause-stops c =
           cause = subst (λ (told : List ℕ). IsRecordCause refused.why rom (memory_disk save) (memory_disk left) (memory_disk recording) (memory_disk left_recording) (Some c.args.lines.now) (Some unread) (Some []) (Some told)) (sym report_is) by;
         };
         counted = record_counted save left recording left_recording refused.why c.in-Err.ensures.save_answered.faults c.in-Err.ensures.recording_answered.faults;
+      };
+      fuses = record {
+        save = record { set = c.in-Err.ensures.save_answered.fuse; follows = c.in-Err.ensures.save_answered.follows };
+        recording = record { set = c.in-Err.ensures.recording_answered.fuse; follows = c.in-Err.ensures.recording_answered.follows };
       };
     }
 

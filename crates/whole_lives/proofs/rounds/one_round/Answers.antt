@@ -1,10 +1,11 @@
 use Rattle.std.proofs.Common.{◌≡◌, List, ℕ, Bool, false, inl, inr, refl, sym, subst}
 use Rattle.sector_device.specs.MemoryDevice.{memory}
 use Rattle.whole_lives.specs.Lives.{Asking}
-use Rattle.whole_lives.specs.Devices.{Memories, memories, EachStands, IsCut, IsCutIfThere, IsPlayed, LeavesRound, Obeying, Refusing, RefusesPlay, with_fuses}
+use Rattle.whole_lives.specs.Devices.{Memories, memories, EachStands, IsCut, IsCutIfThere, IsPlayed, KeepFuses, LeavesRound, Obeying, Refusing, RefusesPlay, with_fuses}
 use Rattle.whole_lives.specs.declared.devices.Devices.{Devices}
 use Rattle.whole_lives.specs.declared.rounds.Round.{Round}
 use Rattle.whole_lives.proofs.Behind.{fused_leaves}
+use Rattle.whole_lives.proofs.FuseLaws.{burnt, burnt_if_there}
 use Rattle.whole_lives.proofs.rounds.one_round.Goals as goal
 
 pub returns-in-Err-clause-refused : goal.returns-in-Err-clause-refused
@@ -57,9 +58,13 @@ returns-in-Ok-cut-clause-cut g c =
     let lines_are : c.deref.result.now ≡ round.lines.items = cc in
     let save_kept : c.deref-2.result.now ≡ round.save_kept.items = cc in
     let recording_kept : c.deref-3.result.now ≡ round.recording_kept.items = cc in
+    let old = memories c.args.devices in
+    let fuses : KeepFuses (with_fuses round old) (memories played) = subst (λ (m : Memories). KeepFuses m (memories played)) c.with_fuses-fused.ensures c.in-Ok.ensures.fuses in
     record {
       played = memories played;
       is_played = played_as g.P.Player.asks g.P.Player.obeys g.P.Player.refuses c.args.cartridge.now (memories c.with_fuses-fused.result) (with_fuses round (memories c.args.devices)) (memories played) c.deref.result.now round.lines.items end.report.items end.whole c.with_fuses-fused.ensures lines_are c.in-Ok.ensures.played;
+      save_calls = burnt round.save_calls old.save played.save fuses.save;
+      recording_calls = burnt_if_there round.recording_calls old.recording played.recording fuses.recording;
       save = subst (λ (kept : List Bool). IsCut kept (memory played.save) (memory c.in-Ok-cut.left.save)) save_kept c.in-Ok-cut.ensures.save;
       recording = subst (λ (kept : List Bool). IsCutIfThere kept (memories played).recording (memories c.in-Ok-cut.left).recording) recording_kept c.in-Ok-cut.ensures.recording;
     }

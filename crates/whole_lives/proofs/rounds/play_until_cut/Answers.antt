@@ -1,5 +1,5 @@
 use Rattle.std.proofs.Common.{true, sym, subst, true≢false, refl}
-use Rattle.whole_lives.specs.Devices.{Memories, CountsCut, LeavesRound, memories}
+use Rattle.whole_lives.specs.Devices.{Memories, CountsCut, KeepFuses, LeavesRound, memories}
 use Rattle.whole_lives.proofs.FuseLaws.{ended_by_fuse}
 use Rattle.whole_lives.proofs.rounds.play_until_cut.Goals as goal
 
@@ -16,3 +16,9 @@ returns-in-Ok-clause-played g c =
 
 pub returns-else-not-is_by_fuse-clause-played : goal.returns-else-not-is_by_fuse-clause-played
 returns-else-not-is_by_fuse-clause-played g c = ended_by_fuse c.in-Err.ensures.stops (c.if-not-is_by_fuse.ensures.yes refl)
+
+pub returns-in-Ok-clause-fuses : goal.returns-in-Ok-clause-fuses
+returns-in-Ok-clause-fuses g c = subst (KeepFuses (memories c.args.devices)) (sym c.into_devices.ensures) c.in-Ok.ensures.gives.fuses
+
+pub returns-else-not-is_by_fuse-clause-fuses : goal.returns-else-not-is_by_fuse-clause-fuses
+returns-else-not-is_by_fuse-clause-fuses g c = c.in-Err.ensures.stops.fuses
