@@ -74,6 +74,7 @@ fn images_keep_the_chosen_writes(rt: HostRuntime) {
         let mut image = device.image(rt.alloc(), kept).or_stop(&rt);
         has(&rt, &mut image, want);
         same!(rt; image.calls(), 0);
+        same!(rt; image.asked(), 3);
         holds!(rt; !image.blown());
     }
     has(&rt, &mut device, [1, 2, 3]);
@@ -100,11 +101,13 @@ fn a_fuse_fails_every_later_call(rt: HostRuntime) {
     fails(&rt, &mut device, 1);
     holds!(rt; device.blown());
     same!(rt; device.calls(), 4);
+    same!(rt; device.asked(), 4);
     // the write that failed may have reached the medium
     let mut image = device.image(rt.alloc(), &[true]).or_stop(&rt);
     has(&rt, &mut image, [1, 2, 0]);
     device.fuse(9);
     has(&rt, &mut device, [1, 0, 0]);
+    same!(rt; device.asked(), 7);
 }
 
 /// The second of three calls fails, and its write is kept or not.
