@@ -9,8 +9,8 @@ The tools, such as `gbkeep-window`, are modules of this package: `python3 -m gbk
 from . import loading
 
 loading.watch()
-from .game import (A, B, DOWN, HEIGHT, LEFT, RIGHT, SELECT, START, UP, WIDTH, DebugMachine, Game, Header, Picture, begin, begin_recording,  # noqa: E402
-                   find_program, header_of)
+from .game import (A, B, DOWN, HEIGHT, LEFT, RIGHT, SELECT, START, UP, WIDTH, DebugMachine, Game, Header, Picture, Position, begin,  # noqa: E402
+                   begin_recording, find_program, header_of)
 from .library import Call, Machine, Session, find_library, sectors_needed  # noqa: E402
 from .machines import SLOTS, AnyGame, AnyMachine, MissingProgram, NoState, Refused  # noqa: E402
 from .streams import take_streams  # noqa: E402
@@ -18,5 +18,5 @@ from .streams import take_streams  # noqa: E402
 take_streams()
 __version__ = '0.1.0'
 __all__ = ['A', 'B', 'DOWN', 'HEIGHT', 'LEFT', 'RIGHT', 'SELECT', 'SLOTS', 'START', 'UP', 'WIDTH', 'AnyGame', 'AnyMachine', 'Call', 'DebugMachine', 'Game',
-           'Header', 'Machine', 'MissingProgram', 'NoState', 'Picture', 'Refused', 'Session', 'begin', 'begin_recording', 'find_library',
+           'Header', 'Machine', 'MissingProgram', 'NoState', 'Picture', 'Position', 'Refused', 'Session', 'begin', 'begin_recording', 'find_library',
            'find_program', 'header_of', 'sectors_needed']

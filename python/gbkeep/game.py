@@ -19,6 +19,7 @@ import collections
 import contextlib
 import errno
 import os
+import re
 import select
 import shutil
 import signal
@@ -28,7 +29,7 @@ from collections.abc import Iterator
 from dataclasses import dataclass
 from pathlib import Path
 from types import TracebackType
-from typing import TYPE_CHECKING, BinaryIO, NoReturn, Optional, SupportsIndex
+from typing import TYPE_CHECKING, BinaryIO, NamedTuple, NoReturn, Optional, SupportsIndex
 
 from .input_files import MOST_CART, PathLike, printable
 from .machines import NO_STATE, STATE_HEADER, STATE_MARK, Buffer, Cart, MissingProgram, NoState, Played, Refused, bytes_of
@@ -85,6 +86,15 @@ class Picture:
         """The shades as 144 rows of 160, where numpy is installed."""
         import numpy
         return numpy.frombuffer(self.shades, numpy.uint8).reshape(HEIGHT, WIDTH)
+
+
+class Position(NamedTuple):
+    """Where in time a machine is: the M-cycles and the frames that it made since it was taken up, the line, its M-cycle, and the mode as STAT shows it."""
+    cycles: int
+    frames: int
+    line: int
+    cycle: int
+    mode: int
 
 
 def prefix() -> Path:
@@ -571,6 +581,15 @@ class DebugMachine(Lines):
                 else:
                     # what it answers says that it has taken the cartridge
                     self._memory(0, 1)
+
+    def position(self) -> Position:
+        """Where in time the machine is. `back`, `restore` and `power` lead elsewhere, but take no time."""
+        self._has_to_be_open()
+        self._ask(b'position\n')
+        found = re.fullmatch(rb'position (\d{1,20}) (\d{1,20}) (\d{1,3}) (\d{1,3}) ([0-3])', self._line())
+        if not found:
+            self._answers_wrongly()
+        return Position(*map(int, found.groups()))
 
     def settle(self) -> None:
         """Waits until all that was given is done."""

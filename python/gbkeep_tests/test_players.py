@@ -373,6 +373,13 @@ def test_machine(room):
             machine.frame(A)
         machine.settle()
         expect('memory goes around', machine.memory(0xffff, 3)[1:], machine.memory(0, 2))
+        before = machine.position()
+        machine.frames(A, 10)
+        after = machine.position()
+        expect('ten frames', (after.frames - before.frames, abs(after.cycles - before.cycles - 175_560) <= 5, after.line < 154, after.cycle < 114), (10, True, True, True))
+        machine.back(999)
+        machine.power()
+        expect('what takes no time', machine.position()[:2], after[:2])
     save = room.path('machine.gbkeep')
     with Game(CART, save, room.program) as game:
         game.frames(START, 70)
