@@ -167,7 +167,8 @@ impl Debugger {
     {
         let most = (KEPT as u32).min(limit);
         let passed = self.machine.run_watching(&mut room.kept, most, watch);
-        self.history.extend_from_slice(&room.kept[..passed.steps as usize]);
+        self.history
+            .extend_from_slice(&room.kept[..passed.steps as usize]);
         passed
     }
 
