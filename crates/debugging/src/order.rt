@@ -12,9 +12,7 @@ ghost use Rattle.debugging.specs.Words.{bytes_left, words_after};
 
 use crate::registers::{RegisterValue, read_register};
 use arrayvec::ArrayVec;
-use machine_lines::{
-    Look, read_address, read_hex, read_look, read_room, read_size, read_slot,
-};
+use machine_lines::{Look, read_address, read_hex, read_look, read_room, read_size, read_slot};
 use script::{Move, cut, read_byte, read_count, read_line};
 
 const SPACE: u8 = b' ';

@@ -26,7 +26,9 @@ use cartridge::Cartridge;
 use exact_text::{Output, OutputFailed, write_whole};
 use input_lines::{LineInput, Unread};
 use machine::Region;
-use machine_lines::{KeptStates, Look, TakenState, shows_picture, take_state, write_count, write_look};
+use machine_lines::{
+    KeptStates, Look, TakenState, shows_picture, take_state, write_count, write_look,
+};
 use playing::{Playable, give_state, make_move, save_line, write_resumed};
 use script::Move;
 use snapshot::length;
