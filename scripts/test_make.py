@@ -388,6 +388,17 @@ def test_whole_builds(folder):
         expect(f'{lanes} lanes: {told} minutes told, {minutes} measured', abs(told - minutes) <= 0.15 * minutes, True)
 
 
+def test_longest_way(folder):
+    """The way that CONTRIBUTING says a build waits for is the longest one of the plan."""
+    order, _, needs = build.crates()
+    way = build.ways(order, needs, build.weights(order))
+    names = [max(order, key=way.get)]
+    while names[-1] != build.PROGRAM:
+        names.append(max((name for name in order if names[-1] in needs[name]), key=way.get))
+    said = re.search(r'the longest way of all, by (.*?), whose crates', ' '.join((TOP / 'docs/CONTRIBUTING.md').read_text().split()))
+    expect('the way', re.findall(r'`(\w+)`', said[1]), names[:-1])
+
+
 def test_last_way(folder):
     """Where one long crate is left, its own time is told, whatever share of the work is done; one that takes longer than it should is never told as over."""
     order, _, needs = build.crates()
