@@ -23,7 +23,7 @@ frames = sum(map(int, re.findall(r'^frames 00 (\\d+)$', text, re.M))) + text.cou
 kinds = (('picture', 'picture_'), ('keep 1', 'state_'))
 print('Collected :', round(frames * table[name] + sum(text.count(line) * table[kind + name] for line, kind in kinds if line in text)), file=sys.stderr)
 '''
-MATCH = '  401000:\tcall   402000 <sm83_processor::opcodes::{}::<machine::loops::FrameLoops, 3>>\n'
+MATCH = '  401000:\tcall   402000 <sm83_processor::processor::Processor::{}::<#245554ff4d9427bf>>\n'
 
 
 def code(without='', calling=None):
@@ -31,7 +31,7 @@ def code(without='', calling=None):
     text = ''
     for loop, count in LOOPS['program'].items():
         for number in range(count - (loop == without)):
-            text += f'\n0000000000401000 <machine::frame::{loop}::<{number}>>:\n  401000:\tcall   403000 <memory_map::bus::Bus::pass>\n'
+            text += f'\n0000000000401000 <machine::frame::{loop}::<={number}>>:\n  401000:\tcall   403000 <memory_map::bus::Bus::pass>\n'
             text += MATCH.format(calling[1]) if calling and calling[0] == loop and not number else ''
     return text
 
@@ -48,7 +48,7 @@ def stand_ins(folder, text):
 
 def test_gate(folder):
     """A twentieth more passes; what costs more ends it, and so does a loop that calls the match on all opcodes."""
-    calls = 'the loop machine::frame::run_fast_steps_by::<0> calls sm83_processor::opcodes::run_instruction::<'
+    calls = 'the loop machine::frame::run_fast_steps_by::<=0> calls sm83_processor::processor::Processor::run_instruction::<'
     for dearer, calling, wanted in (('busy 1.04', None, []), ('scrolling 1.06', None, ['scrolling by the program costs']),
                                     ('picture_scrolling 1.06', ('run_fast_steps_by', 'run_instruction'), ['picture_scrolling by the program costs', calls])):
         done = subprocess.run([sys.executable, '-B', 'scripts/shipped.py', 'gate', folder / 'program'], cwd=TOP, capture_output=True, text=True,
@@ -64,7 +64,7 @@ def test_loops(folder):
         for called in ('run_instruction', 'run_opcode', 'run_bit_opcode'):
             with mock.patch.dict(os.environ, stand_ins(folder, code(calling=(loop, called)))):
                 lines = list(wrong_loops(path, LOOPS['program']))
-            expect(f'{loop} calls {called}: {lines}', (len(lines), f'the loop machine::frame::{loop}::<0> calls ' in lines[0], f'::{called}::' in lines[0]), (1, True, True))
+            expect(f'{loop} calls {called}: {lines}', (len(lines), f'the loop machine::frame::{loop}::<=0> calls ' in lines[0], f'::{called}::' in lines[0]), (1, True, True))
         with mock.patch.dict(os.environ, stand_ins(folder, code(loop))):
             expect(f'{loop} lacks a copy', list(wrong_loops(path, LOOPS['program'])),
                    [f'{path}: {count - 1} copies of the loop {loop}, where {count} are expected'])
