@@ -206,7 +206,7 @@ def served(room, line):
         if not port:
             return [f'{line}: {said}']
         files = json.loads(re.search(r'^const FILES = (.*);$', Path(room, 'web/page/files.js').read_text(), re.M)[1])
-        found = {name: hashlib.sha256(urllib.request.urlopen(f'http://localhost:{port[1]}/{name}', timeout=60).read()).hexdigest() for name in files}
+        found = {name: hashlib.sha256(urllib.request.urlopen(f'http://127.0.0.1:{port[1]}/{name}', timeout=60).read()).hexdigest() for name in files}
         return [f'{line}: {name} is not as it is listed' for name in files if found[name] != files[name]]
     finally:
         server.kill()

@@ -9,12 +9,14 @@ import os
 import random
 import re
 import shutil
+import socket
 import subprocess
 import sys
 import tempfile
 import time
 from concurrent.futures import ThreadPoolExecutor
 from pathlib import Path
+from unittest import mock
 
 from gbkeep.pictures import shades_of
 from gbkeep_tests import support
@@ -577,6 +579,18 @@ def test_size(folder):
 
 
 # ---- the page, and the help
+
+def test_served(folder):
+    """The page's folder is served to who has a name of no computer, as in a root without /etc/hosts."""
+    asked = socket.getaddrinfo
+
+    def numbers_alone(host, *more, **named):
+        if host == 'localhost':
+            raise socket.gaierror(socket.EAI_NONAME, 'Name or service not known')
+        return asked(host, *more, **named)
+    with mock.patch('socket.getaddrinfo', numbers_alone):
+        expect('what is wrong', front_door.served(TOP, 'python3 -m http.server -d web/page 8000'), [])
+
 
 def test_readme(folder):
     """README's first commands serve the page, and then are those that need `rt`, make and Python alone: `make demo`, and `make test`."""
