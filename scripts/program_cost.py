@@ -6,10 +6,9 @@ usage: program_cost.py GBKEEP [FRAMES]
 Of the demo cartridge: the processor time of so many frames, each with its picture, line by line through a pipe; and of the same frames in one line, and
 as many pictures of one machine. The ratio is the first by the sum of the others. Then, of 3,000 saves of two frames each: the wall time of `stream`, and of
 `record`, which writes and syncs one file more. Then of `recorded`, of 2,000,000 inputs. Of a busy loop: the processor time of `test`, of 36,000 frames, and of
-`stream`, of the same frames. Of another: the processor time of `debug`, of `until` with eight addresses that the loop does not meet; and, where valgrind is
-there, the host's instructions of such a step, and of a step of `until-op`, `until-change`, `until-write` and `until-read`."""
+`stream`, of the same frames. Of `busy` of examples/speed: the processor time of `debug`, of `until` with eight addresses that the loop does not meet. Then,
+where valgrind is there, the host's instructions of a step of each kind, and of a frame of `debug`."""
 import os
-import re
 import shutil
 import subprocess
 import sys
@@ -17,10 +16,21 @@ import tempfile
 import time
 from pathlib import Path
 
+from examples.speed import build
 from gbkeep import save_files
+from scripts import shipped
 from scripts.second_storage import recordings
 
 DEMO = Path(__file__).resolve().parent.parent / 'examples/demo/demo.gb'
+UNTIL = 'until {} 0000 0038 0040 0101 0107 01FF 4000 D000'
+# what makes so many steps that meet nothing: a ROM of examples/speed, and a line of the debugger, or the program's own `step`; each as often as shows it
+STEPS = [
+    *(('busy', line, 100_000) for line in (
+        'step', UNTIL, UNTIL.replace('until', 'continue'), 'until-op {} 40', 'until-change {} D000', 'until-write {} D000 DFFF', 'until-read {} D000',
+        'continue {} 4000 write D000-DFFF', 'continue {} 1:4000 op 40 write D000-DFFF change D000')),
+    *((rom, line, 100_000) for rom in ('copy', 'calls') for line in ('until-write {} D000 DFFF', 'until-read {} D000')),
+    ('busy', 'profile {}', 2_000), ('busy', 'frames 00 {}', 40),
+]
 
 
 def processor_seconds(words, text=b'', status=0):
@@ -57,26 +67,14 @@ def busy_loop(room):
     return cartridge(room, bytes([0x3c, 0x80, 0x47, 0xa8, 0x18, 0xfa]))     # INC A; ADD A,B; LD B,A; XOR A,B; JR 0100
 
 
-def steps_loop(room):
-    """A busy loop: LD B,03; then for ever ADD A,B; INC B; XOR A,C; LD C,A; RL C; INC HL; JR 0102."""
-    return cartridge(room, bytes([0x06, 0x03, 0x80, 0x04, 0xa9, 0x4f, 0xcb, 0x11, 0x23, 0x18, 0xf7]))
-
-
-def until(steps):
-    """A line that steps up to one of eight addresses that the loop does not meet."""
-    return b'until %d 0000 0038 0040 0101 0107 01FF 4000 C000\n' % steps
-
-
-def instructions(gbkeep, cart, text):
-    """The host's instructions of a debugger that reads this text."""
-    words = ['valgrind', '--tool=callgrind', '--callgrind-out-file=/dev/null', gbkeep, 'debug', cart]
-    done = subprocess.run(words, capture_output=True, check=True, input=text)
-    return int(re.search(rb'Collected : (\d+)', done.stderr)[1])
-
-
-def step_instructions(gbkeep, cart, line, steps=100_000):
-    """Those of a step of a line, without what begins and ends the program."""
-    return (instructions(gbkeep, cart, line(2 * steps)) - instructions(gbkeep, cart, line(steps))) / steps
+def a_step(gbkeep, cart, line, steps):
+    """The host's instructions of a step of a line, without what begins and ends the program."""
+    def whole(many):
+        if line == 'step':
+            return shipped.instructions([gbkeep, 'step', cart, many])
+        # behind the ROM's beginning, which lies at one of the addresses
+        return shipped.instructions([gbkeep, 'debug', cart], f'frame 00\n{line.format(many)}\n'.encode())
+    return (whole(2 * steps) - whole(steps)) / steps
 
 
 def long_recording(room, count):
@@ -124,15 +122,12 @@ def main():
         alone = min(seconds(gbkeep, room, b'frames 00 %d\n' % frames, busy) for _ in range(3))
         print('test of %d frames: %.2f s; the frames alone %.2f s; ratio %.2f' % (frames, test, alone, test / alone))
     with tempfile.TemporaryDirectory(prefix='steps-') as room:
-        loop, steps = steps_loop(room), 100_000_000
-        spent = min(processor_seconds([gbkeep, 'debug', loop], until(steps)) for _ in range(3))
+        carts, steps = build.write(Path(room)), 100_000_000
+        text = f'frame 00\n{UNTIL.format(steps)}\n'.encode()
+        spent = min(processor_seconds([gbkeep, 'debug', carts['busy']], text) for _ in range(3))
         print('debug, until of %d steps: %.2f s, %.1f ns a step' % (steps, spent, 1e9 * spent / steps))
-        if shutil.which('valgrind'):
-            lines = (until, lambda many: b'until-op %d 40\n' % many, lambda many: b'until-change %d C000\n' % many,
-                     lambda many: b'until-write %d C000 CFFF\n' % many, lambda many: b'until-read %d C000\n' % many)
-            counts = [step_instructions(gbkeep, loop, line) for line in lines]
-            print('debug: %.1f instructions a step of until, %.1f of until-op, %.1f of until-change, %.1f of until-write, %.1f of until-read'
-                  % tuple(counts))
+        for rom, line, many in STEPS if shutil.which('valgrind') else ():
+            print(f'{rom}, {line}: {a_step(gbkeep, carts[rom], line, many):,.1f} instructions', flush=True)
     return 0
 
 

@@ -3,6 +3,7 @@
 usage: shipped.py GBKEEP [LIBRARY CORE] [--keep]
        shipped.py where GBKEEP [--keep]
        shipped.py gate GBKEEP [LIBRARY CORE]
+       shipped.py beside GBKEEP LIBRARY CORE OTHER
 
 GBKEEP is the proved program before it is stripped; LIBRARY is a folder with libgbkeep.a and libgbkeep.so, CORE is gbkeep_libretro.so.
 
@@ -14,6 +15,9 @@ of three. --keep writes docs/speed.csv, of which speed_chart.py makes a picture 
 
 `where` tells in which functions of the program the instructions of a frame are, those that each function calls left out, and of all functions that have the
 same name and other types the sum. --keep writes docs/speed_where.csv.
+
+`beside` tells how many times as fast the program plays as another core, OTHER, which draws each frame and makes sound where `play` draws none; and how long
+3,000 frames of the demo with their pictures take the core, and as many states, told and taken back. Each is the least of three of processor time.
 
 `gate` counts a few ROMs, and fails where a frame costs more than a twentieth above its row of docs/speed.csv. It also looks at the code of program and
 library: the loops in which most instructions are made have the match on all opcodes in line, and a loop that is missing or that calls it fails. It ends with a
@@ -34,6 +38,7 @@ from scripts.doctor import compiler, missing, needed, tries
 from scripts.not_tried import note
 
 ROOT = Path(__file__).resolve().parent.parent
+DEMO = ROOT / 'examples/demo/demo.gb'
 PLAYER = Path(__file__).with_name('shipped_player.c')
 TABLE = ROOT / 'docs/speed.csv'
 WHERE = ROOT / 'docs/speed_where.csv'
@@ -49,6 +54,8 @@ MORE = {
     'picture_scrolling': ('scrolling', 'picture', 'frame', 'a picture where each row changes'),
     'state_busy': ('busy', 'state', 'debug', 'a state, taken and given back'),
 }
+# by time, beside another core: as games are, the dearest and the cheapest
+BESIDE = ('busy', 'compiled', 'scrolling', 'raster', 'game', 'unpack', 'wave', 'halting')
 # what a frame does in most games, and each as dear as it is
 GATE = ('busy', 'compiled', 'scrolling', 'raster', 'game', 'unpack', 'picture_scrolling', 'state_busy')
 MOST = 1.05
@@ -239,6 +246,22 @@ def where(path, is_kept):
 
 # ---- the ways to call it
 
+def beside(words):
+    with tempfile.TemporaryDirectory(prefix='speed-') as folder:
+        room = Path(folder)
+        found, _ = ships(words, room)
+        carts, other = build.write(room / 'roms'), Shared(room / 'player', words[3], room)
+
+        def a_frame(of, cart, many, kind='frame'):
+            return (seconds(*of.command(cart, WARM + many, kind)) - seconds(*of.command(cart, WARM, kind))) / many
+        for name in BESIDE:
+            many = 30_000 if name == 'halting' else 3_000
+            own, others = a_frame(found['program'], carts[name], many), a_frame(other, carts[name], many // 3)
+            print(f'{name}: {others / own:.1f} times as fast, {1e6 * own:.1f} us a frame', flush=True)
+        alone, shown, kept = (3_000 * a_frame(found['core'], DEMO, 3_000, kind) for kind in ('frame', 'picture', 'state'))
+        print(f'the core, 3,000 frames of the demo: {alone:.2f} s; with their pictures {shown:.2f} s; the states alone {kept - alone:.2f} s')
+
+
 def cost(of, carts, name):
     """What a row of the table counts: a frame, or what is done behind it."""
     if name not in MORE:
@@ -313,12 +336,14 @@ def gate(words):
 
 def main():
     words = [word for word in sys.argv[1:] if word != '--keep']
-    way = words[0] if words[:1] in (['gate'], ['where']) else None
+    way = words[0] if words[:1] in (['gate'], ['where'], ['beside']) else None
     paths, is_kept = [os.path.abspath(word) for word in words[1 if way else 0:]], '--keep' in sys.argv
-    if len(paths) not in ((1,) if way == 'where' else (1, 3)) or (way == 'gate' and is_kept):
+    if len(paths) not in {'where': (1,), 'beside': (4,)}.get(way, (1, 3)) or (way in ('gate', 'beside') and is_kept):
         sys.exit(__doc__)
     if way == 'gate':
         gate(paths)
+    elif way == 'beside':
+        beside(paths)
     elif way == 'where':
         where(paths[0], is_kept)
     else:
