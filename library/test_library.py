@@ -25,8 +25,9 @@ from unittest import mock
 
 HERE = Path(__file__).resolve().parent
 TOP = HERE.parent
-from gbkeep import AnyGame, AnyMachine, DebugMachine, Game, Machine, NoState, Picture, Refused, Session, header_of, save_files, sectors_needed
+from gbkeep import AnyGame, AnyMachine, DebugMachine, Game, Machine, NoState, Refused, Session, header_of, save_files, sectors_needed
 from gbkeep.library import BEFORE, BEHIND, ELSEWHERE, FAR_BEFORE, FAR_BEHIND, HERE, NO_TIME, NOTHING, OLDER, Clock, clock_lines, find_library, look_at_clock
+from gbkeep.pictures import shades_of
 from scripts.doctor import tries
 
 PROGRAM, LIBRARY = 'bin/gbkeep', TOP / 'bin'
@@ -83,7 +84,7 @@ class InFolder(unittest.TestCase):
         out = self.folder / 'picture.pgm'
         out.unlink(missing_ok=True)
         self.gbkeep('frame', DEMO, save, out)
-        return Picture(out.read_bytes()).shades
+        return shades_of(out.read_bytes())
 
 
 class Playing(InFolder):

@@ -25,7 +25,7 @@ import urllib.request
 from pathlib import Path
 
 from examples.speed import build as speed_roms
-from gbkeep import Picture
+from gbkeep.pictures import shades_of
 from scripts.doctor import tries
 from scripts.page import list_files
 
@@ -114,7 +114,7 @@ class Program:
         out = self.folder / 'picture.pgm'
         out.unlink(missing_ok=True)
         self.do('frame', cart, save, out)
-        return Picture(out.read_bytes()).shades
+        return shades_of(out.read_bytes())
 
     def state(self, cart, inputs):
         return self.shown(cart, self.played(cart, inputs))['state']

@@ -28,8 +28,8 @@ from pathlib import Path
 from examples.demo.assemble import Assembler
 from examples.demo.check import SAYS, glyphs, letters
 from examples.speed import build as speed_roms
-from gbkeep import Picture
 from gbkeep.palettes import PALETTES
+from gbkeep.pictures import shades_of
 from gbkeep.timed_game import SaveTime, TimedGame, milliseconds
 from scripts.page import list_files
 
@@ -416,7 +416,7 @@ class Program:
         out = self.folder / 'picture.pgm'
         out.unlink(missing_ok=True)
         self.do('frame', cart, save, out)
-        return Picture(out.read_bytes()).shades
+        return shades_of(out.read_bytes())
 
 
 def any_inputs(chance, count, most=40):
